@@ -1,0 +1,5 @@
+pub mod Errno
+pub mod ETag
+pub mod Content
+pub mod Count
+pub mod Path

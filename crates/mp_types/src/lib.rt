@@ -1,0 +1,23 @@
+//! The base types that every crate above shares: texts, keys, ETags, paths, a script's data, errors.
+//! Each is seen by contracts as plain values: a text as its bytes, a list as a list.
+//! Nothing here knows of buckets, requests or records.
+#![tactic(auto)]
+
+mod errno;
+mod etag;
+mod items;
+mod key;
+mod octets;
+mod path;
+mod text;
+
+pub use errno::Errno;
+pub use etag::{ETag, ETagFault};
+pub use items::Items;
+pub use key::{Key, KeyFault};
+pub use octets::Data;
+pub use path::PathFault;
+pub use text::Text;
+
+/// Any bytes, seen by contracts as their list.
+pub type Octets = Items<u8>;
