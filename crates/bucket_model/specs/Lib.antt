@@ -1,0 +1,4 @@
+pub mod Along
+pub mod Answers
+pub mod Bucket
+pub mod History

@@ -1,0 +1,36 @@
+ghost use Rattle.std.specs.Prelude.{◌≡◌, IfOk};
+
+use bytes::Bytes;
+use mp_types::Key;
+use std::alloc::{AllocError, Global};
+
+/// A call of a bucket.
+#[derive(Debug, Drop)]
+pub enum Call {
+    /// HeadObject: the ETag and the size of the object at the key.
+    Head { key: Key },
+    /// ListObjectsV2 of one item: whether some key begins with this one followed by `/`.
+    Probe { key: Key },
+    /// PutObject: the object at the key is replaced by these bytes.
+    Put { key: Key, bytes: Bytes },
+}
+
+impl Call {
+    /// An equal call. Bytes are shared and not copied.
+    pub fn copy(&self, alloc: Global) -> Result<Self, AllocError>
+        ensures { IfOk result (λ copied. copied ≡ self.now) }
+    {
+        match self {
+            Call::Head { key } => Ok(Call::Head {
+                key: key.copy(alloc)?,
+            }),
+            Call::Probe { key } => Ok(Call::Probe {
+                key: key.copy(alloc)?,
+            }),
+            Call::Put { key, bytes } => Ok(Call::Put {
+                key: key.copy(alloc)?,
+                bytes: bytes.clone()?,
+            }),
+        }
+    }
+}

@@ -1,0 +1,33 @@
+use crate::{Brief, Call};
+use bytes::Bytes;
+use mp_types::ETag;
+
+/// An object: its ETag and its bytes.
+#[derive(Debug, Drop)]
+pub struct Object {
+    pub etag: ETag,
+    pub bytes: Bytes,
+}
+
+/// One call in a bucket's history, with its answer in brief.
+#[derive(Debug, Drop)]
+pub struct HEntry {
+    pub call: Call,
+    pub answer: Brief,
+    /// Whether the call took effect. False only where the answer is a fault.
+    pub took: bool,
+}
+
+/// A name that a call gave to what it made.
+#[derive(Debug, Drop)]
+pub enum Name {
+    /// The ETag of an object version.
+    Version(ETag),
+}
+
+/// An entry with the name that it made, if any.
+#[derive(Debug, Drop)]
+pub struct Logged {
+    pub entry: HEntry,
+    pub made: Option<Name>,
+}
