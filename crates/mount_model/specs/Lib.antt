@@ -1,0 +1,7 @@
+pub mod Conversation
+pub mod RecordText
+pub mod Run
+pub mod ScriptText
+pub mod State
+pub mod Step
+pub mod Tied

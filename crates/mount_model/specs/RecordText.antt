@@ -1,0 +1,95 @@
+-- The text of a record.
+use Rattle.std.specs.Prelude.{ℕ, ◌+◌, ◌/◌, ◌%◌, List, [], ◌∷◌, ◌++◌, flat_map, Bool, not, ◌&&◌, ◌==◌, nat_le, nat_lt, if◌then◌else◌, codes, decimal}
+use Rattle.mp_types.specs.declared.errno.Errno.{Errno}
+use Rattle.mp_types.specs.declared.errno.Errno.TheVariants.{Eperm, Enoent, Eio, Ebadf, Enomem, Eexist, Enotdir, Eisdir, Einval, Emfile, Efbig, Enametoolong, Enotempty, Eoverflow, Estale}
+use Rattle.bucket_model.specs.declared.answer.Brief.{Brief}
+use Rattle.bucket_model.specs.declared.answer.Brief.TheVariants as answer
+use Rattle.mount_model.specs.declared.request.Reply.{Reply}
+use Rattle.mount_model.specs.declared.request.Reply.TheVariants as reply
+use Rattle.mount_model.specs.declared.event.Event.{Event}
+use Rattle.mount_model.specs.declared.event.Event.TheVariants.{Begin, Take, Done}
+use Rattle.mount_model.specs.declared.event.Owner.{Owner}
+use Rattle.mount_model.specs.declared.event.Owner.TheVariants as owner
+use Rattle.mount_model.specs.declared.event.AskedCall.{AskedCall}
+use Rattle.mount_model.specs.declared.event.AskedCall.TheVariants as asked
+use Rattle.mount_model.specs.declared.event.Ask.{Ask}
+use Rattle.mount_model.specs.declared.event.Answered.{Answered}
+use Rattle.mount_model.specs.Step.{Step}
+
+-- a byte that stands for itself: printable, and not `%`
+abbrev pub is_plain : ℕ → Bool
+is_plain byte = nat_le 33 byte && nat_le byte 126 && not (byte == 37)
+
+-- a digit in upper-case hexadecimal
+abbrev pub hex_digit : ℕ → ℕ
+hex_digit n = if nat_lt n 10 then 48 + n else 55 + n
+
+abbrev pub escaped_byte : ℕ → List ℕ
+escaped_byte byte = if is_plain byte then byte ∷ [] else 37 ∷ hex_digit (byte / 16) ∷ hex_digit (byte % 16) ∷ []
+
+-- the empty text is a single `%`
+abbrev pub escaped : List ℕ → List ℕ
+escaped [] = 37 ∷ []
+escaped (byte ∷ bytes) = escaped_byte byte ++ flat_map escaped_byte bytes
+
+abbrev pub answer_text : Brief → List ℕ
+answer_text (answer.Found etag size) = codes "found " ++ (etag ++ (codes " " ++ decimal size))
+answer_text answer.Missing = codes "missing"
+answer_text answer.Yes = codes "yes"
+answer_text answer.No = codes "no"
+answer_text (answer.Made etag) = codes "made " ++ etag
+answer_text answer.Fault = codes "fault"
+answer_text answer.NoMemory = codes "nomemory"
+
+abbrev pub event_text : Event → List ℕ
+event_text (Begin line time) = codes "B " ++ (decimal line ++ (codes " " ++ (decimal time ++ codes "\n")))
+event_text (Take job time from) = codes "T " ++ (decimal job ++ (codes " " ++ (decimal time ++ (codes " " ++ (decimal from ++ codes "\n")))))
+event_text (Done job position brief) = codes "D " ++ (decimal job ++ (codes " " ++ (decimal position ++ (codes " " ++ (answer_text brief ++ codes "\n")))))
+
+abbrev pub drop_text : ℕ → List ℕ
+drop_text job = codes "X " ++ (decimal job ++ codes "\n")
+
+abbrev pub owner_text : Owner → List ℕ
+owner_text (owner.Line number) = codes "L" ++ decimal number
+
+abbrev pub call_text : AskedCall → List ℕ
+call_text (asked.Head key) = codes "head " ++ escaped key
+call_text (asked.Probe key) = codes "probe " ++ escaped key
+call_text (asked.Put key size) = codes "put " ++ (escaped key ++ (codes " " ++ decimal size))
+
+abbrev pub ask_text : Ask → List ℕ
+ask_text ask = codes "A " ++ (decimal ask.job ++ (codes " " ++ (owner_text ask.owner ++ (codes " " ++ (call_text ask.call ++ codes "\n")))))
+
+abbrev pub errno_text : Errno → List ℕ
+errno_text Eperm = codes "EPERM"
+errno_text Enoent = codes "ENOENT"
+errno_text Eio = codes "EIO"
+errno_text Ebadf = codes "EBADF"
+errno_text Enomem = codes "ENOMEM"
+errno_text Eexist = codes "EEXIST"
+errno_text Enotdir = codes "ENOTDIR"
+errno_text Eisdir = codes "EISDIR"
+errno_text Einval = codes "EINVAL"
+errno_text Emfile = codes "EMFILE"
+errno_text Efbig = codes "EFBIG"
+errno_text Enametoolong = codes "ENAMETOOLONG"
+errno_text Enotempty = codes "ENOTEMPTY"
+errno_text Eoverflow = codes "EOVERFLOW"
+errno_text Estale = codes "ESTALE"
+
+abbrev pub said_text : Reply → List ℕ
+said_text (reply.Made etag) = codes "made " ++ etag
+said_text reply.Success = codes "ok"
+said_text reply.Directory = codes "dir"
+said_text (reply.File size) = codes "file " ++ decimal size
+said_text (reply.Failed errno) = codes "err " ++ errno_text errno
+
+abbrev pub reply_text : Answered → List ℕ
+reply_text answered = codes "R " ++ (decimal answered.line ++ (codes " " ++ (said_text answered.reply ++ codes "\n")))
+
+-- the event, then what it drops, asks and replies
+abbrev pub step_text : Step → List ℕ
+step_text step = event_text step.event ++ (flat_map drop_text step.drops ++ (flat_map ask_text step.asks ++ flat_map reply_text step.replies))
+
+abbrev pub record_text : List Step → List ℕ
+record_text steps = flat_map step_text steps

@@ -1,0 +1,57 @@
+use crate::Reply;
+use bucket_model::Brief;
+use mp_types::Key;
+
+/// What one step of the mount begins with.
+#[derive(Debug, Drop)]
+pub enum Event {
+    /// A line begins.
+    Begin {
+        line: u32,
+        time: u64,
+    },
+    /// A job's bucket call is made, at a position of the history that is at least `from`.
+    Take {
+        job: u64,
+        time: u64,
+        from: u64,
+    },
+    /// A job's answer has come. Its entry stands at this position of the history.
+    Done {
+        job: u64,
+        position: u64,
+        answer: Brief,
+    },
+}
+
+/// Whose job it is.
+#[derive(Clone, Copy, Debug, PartialEq, Eq)]
+pub enum Owner {
+    /// The line of this number.
+    Line(u32),
+}
+
+/// A bucket call as the record tells it, with the length of what is put in place of the bytes.
+#[derive(Debug, Drop)]
+pub enum AskedCall {
+    Head { key: Key },
+    Probe { key: Key },
+    Put { key: Key, length: u64 },
+}
+
+/// A job that a step asks for.
+#[derive(Debug, Drop)]
+pub struct Ask {
+    /// The job's number, from 1 in the order of asking.
+    pub job: u64,
+    pub owner: Owner,
+    pub call: AskedCall,
+}
+
+/// A line's reply.
+#[derive(Debug, Drop)]
+pub struct Answered {
+    /// The line's number.
+    pub line: u32,
+    pub reply: Reply,
+}

@@ -1,0 +1,25 @@
+/// What is wrong with a line of a script. The first thing that is wrong gives the cause.
+#[derive(Clone, Copy, Debug, PartialEq, Eq)]
+pub enum ScriptCause {
+    /// The first word isn't a number from 0 to 999.
+    Actor,
+    /// The second word is no verb of this actor.
+    Verb,
+    /// A word is empty or missing, or there is one too many.
+    Words,
+    /// A word has `%` or a byte that doesn't stand for itself.
+    Escape,
+    /// A key has more than 1,024 bytes.
+    Key,
+    /// Data isn't `t` and its bytes.
+    Data,
+    /// The path is the root or has more than one name, which isn't served yet.
+    Path,
+}
+
+/// What there is too much of in a script.
+#[derive(Clone, Copy, Debug, PartialEq, Eq)]
+pub enum What {
+    /// More than 67,108,864 bytes.
+    Bytes,
+}

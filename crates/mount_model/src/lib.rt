@@ -1,0 +1,15 @@
+//! The machine that the mount is: requests, replies, events, records, and all definitions that
+//! say what a run is, with the laws about them. How the mount does it stands in the crates above.
+#![tactic(auto)]
+
+mod event;
+mod fault;
+mod record;
+mod request;
+mod standing;
+
+pub use event::{Answered, Ask, AskedCall, Event, Owner};
+pub use fault::{ScriptCause, What};
+pub use record::{Item, Record};
+pub use request::{Line, Reply, Request, Script};
+pub use standing::{Phase, Standing};

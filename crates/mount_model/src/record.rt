@@ -1,0 +1,91 @@
+ghost use Rattle.std.specs.Prelude.{◌≡◌, ◌+◌, ◌<◌, ◌≤◌, List, [], ◌∷◌, ◌++◌, true, OnOk, OnErr};
+ghost use Rattle.mount_model.specs.Step.{step_of, steps_of, with_ask, with_reply, change_last, MayAsk, HasStep, IsInOrder};
+
+use crate::{Answered, Ask, Event};
+use std::alloc::{AllocError, Global};
+use std::marker::Model;
+
+/// One piece of a record.
+#[derive(Debug, Drop)]
+pub enum Item {
+    /// A step begins.
+    Event(Event),
+    /// The step asks for a job.
+    Ask(Ask),
+    /// The step gives a reply.
+    Reply(Answered),
+}
+
+/// What happened, step by step. All items stand in one row, so that room is made for them together.
+#[derive(Debug, Drop)]
+pub struct Record {
+    items: Vec<Item>,
+}
+
+impl Model for Record {
+    ghost use Rattle.std.specs.Prelude.{◌≡◌, ◌-◌, true, vec_len, vec_capacity};
+    ghost use Rattle.mount_model.specs.Step.{Written, steps_of, IsInOrder};
+
+    ghost Value = { Written };
+
+    ghost view = { λ a. record { steps = steps_of a.items.items; room = vec_capacity a.items - vec_len a.items } };
+
+    ghost invariant = { λ a. IsInOrder a.items.items };
+}
+
+impl Record {
+    /// A record of nothing. Takes no memory.
+    pub fn new(alloc: Global) -> Self
+        ensures { result.steps ≡ [] }
+    {
+        Record {
+            items: Vec::new(alloc),
+        }
+    }
+
+    /// Makes room for this many items more. Only this can find no memory.
+    pub fn make_room(&mut self, items: usize) -> Result<(), AllocError>
+        ensures steps { self.new.steps ≡ self.old.steps }
+        ensures room { OnOk result (items ≤ self.new.room) }
+        ensures kept { self.old.room ≤ self.new.room }
+    {
+        self.items.reserve(items)
+    }
+
+    /// Begins a step.
+    pub fn event(&mut self, event: Event)
+        requires { 0 < self.old.room }
+        ensures steps { self.new.steps ≡ self.old.steps ++ step_of event ∷ [] }
+        ensures room { self.new.room + 1 ≡ self.old.room }
+    {
+        self.items.push_reserved(Item::Event(event));
+    }
+
+    /// Adds a job to the last step, which has no reply yet.
+    pub fn ask(&mut self, ask: Ask)
+        requires room { 0 < self.old.room }
+        requires may { MayAsk self.old.steps }
+        ensures steps { self.new.steps ≡ change_last (with_ask ask) self.old.steps }
+        ensures room { self.new.room + 1 ≡ self.old.room }
+    {
+        self.items.push_reserved(Item::Ask(ask));
+    }
+
+    /// Adds a reply to the last step.
+    pub fn reply(&mut self, reply: Answered)
+        requires room { 0 < self.old.room }
+        requires may { HasStep self.old.steps }
+        ensures steps { self.new.steps ≡ change_last (with_reply reply) self.old.steps }
+        ensures room { self.new.room + 1 ≡ self.old.room }
+    {
+        self.items.push_reserved(Item::Reply(reply));
+    }
+
+    /// The items in the order in which they are written.
+    pub fn items(&self) -> &[Item]
+        ensures steps { steps_of result.now ≡ self.now.steps }
+        ensures order { IsInOrder result.now }
+    {
+        self.items.as_slice()
+    }
+}

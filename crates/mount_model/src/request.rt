@@ -1,0 +1,40 @@
+use mp_types::{Data, ETag, Errno, Items, Key, Text};
+
+/// What one line of a script asks for.
+#[derive(Debug, Drop)]
+pub enum Request {
+    /// Others store an object.
+    Put { key: Key, content: Data },
+    /// Waits until every line above has its reply.
+    Await,
+    /// Asks what stands at a path.
+    Stat { path: Text },
+}
+
+/// The answer to a line.
+#[derive(Debug, Drop)]
+pub enum Reply {
+    /// An object was made.
+    Made(ETag),
+    /// Done, with nothing to tell.
+    Success,
+    /// A directory stands there.
+    Directory,
+    /// A file of this many bytes stands there.
+    File { size: u64 },
+    /// The request failed.
+    Failed(Errno),
+}
+
+/// A line of a script.
+#[derive(Debug, Drop)]
+pub struct Line {
+    /// The line's place in the script's text, from 1. Numbers rise; empty lines and comments have none.
+    pub number: u32,
+    /// The process that asks, 1 to 999, or 0 for the others.
+    pub actor: u16,
+    pub request: Request,
+}
+
+/// The lines of a script, in order.
+pub type Script = Items<Line>;
