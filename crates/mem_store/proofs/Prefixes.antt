@@ -1,0 +1,60 @@
+-- Keys that begin alike stand together, from what they begin with on.
+use Rattle.std.proofs.Common.{◌≡◌, ℕ, ◌<◌, ◌⊎◌, inl, inr, Bool, true, false, ◌&&◌, List, [], ◌∷◌, refl, subst, arith, is_gt, nat_cmp, Ordering, Less, Equal, Greater, eqb-true, eq-eqb}
+use Rattle.std.specs.Cmp.{nat_cmp_total}
+use Rattle.std.specs.Cmp.Lexicographic.{slice_cmp}
+use Rattle.std.specs.List.{starts_with}
+use Rattle.std.specs.Ordering.{MatchOrdering, ordering_then}
+use Rattle.std.specs.Prelude.{nat_eq}
+use Rattle.std.proofs.lemmas.Cmp.{ranked, tied_itself}
+
+-- the first bytes decide, or they are the same
+first_or_rest : (x y : ℕ) (first rest : Ordering) → MatchOrdering first (x < y) (x ≡ y) (y < x) → is_gt (ordering_then first rest) ≡ false → (x < y) ⊎ ((x ≡ y) × (is_gt rest ≡ false))
+first_or_rest x y Less rest ranks upto = inl ranks
+first_or_rest x y Equal rest ranks upto = inr (ranks, upto)
+first_or_rest x y Greater rest ranks upto = absurd (cc)
+
+upto_cons : (x y : ℕ) (xs ys : List ℕ) → is_gt (slice_cmp nat_cmp (x ∷ xs) (y ∷ ys)) ≡ false → (x < y) ⊎ ((x ≡ y) × (is_gt (slice_cmp nat_cmp xs ys) ≡ false))
+upto_cons x y xs ys upto = first_or_rest x y (nat_cmp x y) (slice_cmp nat_cmp xs ys) (ranked x y _ refl) upto
+
+both : (a b : Bool) → (a && b) ≡ true → (a ≡ true) × (b ≡ true)
+both true b h = (refl, h)
+both false b h = absurd (cc)
+
+two_true : (a b : Bool) → a ≡ true → b ≡ true → (a && b) ≡ true
+two_true true b h k = k
+two_true false b h k = h
+
+begins_cons : (x y : ℕ) (xs ys : List ℕ) → starts_with nat_eq (y ∷ ys) (x ∷ xs) ≡ true → (x ≡ y) × (starts_with nat_eq ys xs ≡ true)
+begins_cons x y xs ys h =
+    let parts = both (nat_eq x y) (starts_with nat_eq ys xs) h in
+    (eqb-true x y parts.0, parts.1)
+
+same_first : (o q : Ordering) → o ≡ Equal → is_gt q ≡ false → is_gt (ordering_then o q) ≡ false
+same_first Equal q e h = h
+same_first Less q e h = refl
+same_first Greater q e h = absurd (cc)
+
+-- what begins with the text comes at it or after it
+pub from_start : (start key : List ℕ) → starts_with nat_eq key start ≡ true → is_gt (slice_cmp nat_cmp start key) ≡ false
+from_start [] [] begins = refl
+from_start [] (y ∷ ys) begins = refl
+from_start (x ∷ xs) [] begins = absurd (cc)
+from_start (x ∷ xs) (y ∷ ys) begins =
+    let parts = begins_cons x y xs ys begins in
+    let P : ℕ → Type 0 = λ z. nat_cmp x z ≡ Equal in
+    same_first (nat_cmp x y) (slice_cmp nat_cmp xs ys) (subst P parts.0 (tied_itself nat_cmp_total x)) (from_start xs ys parts.1)
+
+-- between the text and what begins with it, all begin with it
+pub between : (start key last : List ℕ) → starts_with nat_eq last start ≡ true → is_gt (slice_cmp nat_cmp start key) ≡ false → is_gt (slice_cmp nat_cmp key last) ≡ false → starts_with nat_eq key start ≡ true
+between [] key last begins low high = refl
+between (x ∷ xs) [] last begins low high = absurd (cc)
+between (x ∷ xs) (y ∷ ys) [] begins low high = absurd (cc)
+between (x ∷ xs) (y ∷ ys) (z ∷ zs) begins low high =
+    let parts = begins_cons x z xs zs begins in
+    elim (upto_cons x y xs ys low) [
+      | inl less ↦ elim (upto_cons y z ys zs high) [ inl more ↦ absurd (omega (arith, parts.0)) | inr same ↦ absurd (omega (arith, parts.0, same.0)) ]
+      | inr same ↦ elim (upto_cons y z ys zs high) [
+        | inl more ↦ absurd (omega (arith, parts.0, same.0))
+        | inr also ↦ two_true (nat_eq x y) (starts_with nat_eq ys xs) (eq-eqb x y same.0) (between xs ys zs parts.1 same.1 also.1)
+      ]
+    ]

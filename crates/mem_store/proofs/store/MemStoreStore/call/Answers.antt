@@ -1,0 +1,11 @@
+use Rattle.mem_store.proofs.Adds.{adds}
+use Rattle.mem_store.proofs.store.MemStoreStore.call.Goals as goal
+
+pub returns-in-Head-clause-told : goal.returns-in-Head-clause-told
+returns-in-Head-clause-told c = adds _ _ _ _ _ _ c.in-Head.is c.head.ensures
+
+pub returns-in-Probe-clause-told : goal.returns-in-Probe-clause-told
+returns-in-Probe-clause-told c = adds _ _ _ _ _ _ c.in-Probe.is c.probe.ensures
+
+pub returns-in-Put-clause-told : goal.returns-in-Put-clause-told
+returns-in-Put-clause-told c = adds _ _ _ _ _ _ c.in-Put.is c.put.ensures

@@ -1,0 +1,65 @@
+-- What one call of a bucket in memory does to its log.
+use Rattle.std.specs.Prelude.{◌≡◌, ℕ, ◌+◌, List, [], ◌∷◌, ◌++◌, length, nat_eq, Bool, true, false, Option, Some, None, IsSome}
+use Rattle.std.specs.BTreeMap as tree
+use Rattle.std.specs.Cmp.Lexicographic.{slice_cmp}
+use Rattle.std.specs.Fmt.{decimal}
+use Rattle.std.specs.List.{starts_with}
+use Rattle.std.specs.Ordering.{nat_cmp}
+use Rattle.bucket_model.specs.declared.call.Call.{Call}
+use Rattle.bucket_model.specs.declared.answer.Brief.{Brief}
+use Rattle.bucket_model.specs.declared.answer.Brief.TheVariants.{Found, Missing, Yes, No, Made, Fault, NoMemory}
+use Rattle.bucket_model.specs.declared.history.Name.{Name}
+use Rattle.bucket_model.specs.declared.history.Name.TheVariants.{Version}
+use Rattle.bucket_model.specs.declared.history.Logged.{Logged}
+use Rattle.bucket_model.specs.declared.history.Object.{Object}
+use Rattle.bucket_model.specs.Bucket.{IsAnswer}
+use Rattle.bucket_model.specs.History.{History, replay, versions_of, IsLegalHistory}
+
+-- `v` and the number
+abbrev pub etag_of_version : ℕ → List ℕ
+etag_of_version number = 118 ∷ decimal number
+
+-- the name that an answer tells of
+abbrev pub made_by : Brief → Option Name
+made_by (Made etag) = Some (Version etag)
+made_by (Found etag size) = None
+made_by Missing = None
+made_by Yes = None
+made_by No = None
+made_by Fault = None
+made_by NoMemory = None
+
+-- the entry of an answered call
+abbrev pub entry_of : Call → Brief → Logged
+entry_of asked answer = record { entry = record { call = asked; answer = answer; took = true }; made = made_by answer }
+
+-- what is told of a log
+abbrev pub history_of : List Logged → History
+history_of log = record { log = log; versions = versions_of log }
+
+-- whether some key of the map begins so
+abbrev pub Finds : tree.BTreeMap (List ℕ) Object → List ℕ → Bool → Type 0
+Finds objects start true = (key : List ℕ) × IsSome (tree.get (slice_cmp nat_cmp) objects key) × (starts_with nat_eq key start ≡ true)
+Finds objects start false = (key : List ℕ) → IsSome (tree.get (slice_cmp nat_cmp) objects key) → starts_with nat_eq key start ≡ true → ⊥
+
+-- the answer of a probe that found such a key, or none
+abbrev pub probe_of : Bool → Brief
+probe_of true = Yes
+probe_of false = No
+
+-- want of memory leaves no entry, and a fault never comes
+abbrev pub Serves : Call → List Logged → List Logged → Brief → Type 0
+Serves asked old new NoMemory = new ≡ old
+Serves asked old new Fault = ⊥
+Serves asked old new (Found etag size) = IsAnswer (replay old) asked (Found etag size) × (new ≡ old ++ entry_of asked (Found etag size) ∷ [])
+Serves asked old new Missing = IsAnswer (replay old) asked Missing × (new ≡ old ++ entry_of asked Missing ∷ [])
+Serves asked old new Yes = IsAnswer (replay old) asked Yes × (new ≡ old ++ entry_of asked Yes ∷ [])
+Serves asked old new No = IsAnswer (replay old) asked No × (new ≡ old ++ entry_of asked No ∷ [])
+Serves asked old new (Made etag) = IsAnswer (replay old) asked (Made etag) × (new ≡ old ++ entry_of asked (Made etag) ∷ [])
+    × (etag ≡ etag_of_version (length (versions_of old) + 1))
+
+-- the call's answer is the one that the log before it has, and its entry stands at this place
+pub record IsServed (asked : Call) (old new : List Logged) (place : ℕ) (answer : Brief) : Type 0 where
+  pub at_end : place ≡ length old
+  pub served : Serves asked old new answer
+  pub legal : IsLegalHistory new

@@ -1,0 +1,9 @@
+//! A bucket in memory that keeps the history of its calls.
+//! It serves tests and the program alike: no clock, no file and no network stands here.
+#![tactic(auto)]
+
+mod log;
+mod objects;
+mod store;
+
+pub use store::MemStore;

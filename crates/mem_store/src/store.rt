@@ -1,0 +1,193 @@
+ghost use Rattle.std.specs.Prelude.{◌≡◌, [], length, Some, IsOk, IfOk};
+ghost use Rattle.bucket_model.specs.declared.call.Call.TheVariants.{Head, Probe, Put};
+ghost use Rattle.bucket_model.specs.Answers.{brief_of};
+ghost use Rattle.bucket_model.specs.History.{IsLegalHistory};
+ghost use Rattle.mem_store.specs.Served.{IsServed, history_of};
+ghost use Rattle.mem_store.specs.Laws.{honest_is_legal, position_is};
+
+use crate::log::add_entry;
+use crate::objects::{finds_below, head_answer, probe_answer, put_version};
+use bucket_model::{Answer, Call, Logged, Object};
+use bytes::Bytes;
+use mp_types::{Key, Text};
+use std::alloc::{AllocError, Global};
+use std::collections::BTreeMap;
+use std::marker::Model;
+use store_trait::Store;
+
+/// A bucket in memory, seen by contracts as its log, which grows with each answered call.
+/// Its n-th object version, from 1, has the ETag `v` and n in decimal.
+#[derive(Drop)]
+pub struct MemStore {
+    objects: BTreeMap<Text, Object>,
+    log: Vec<Logged>,
+    versions: u64,
+    alloc: Global,
+}
+
+impl Model for MemStore {
+    ghost use Rattle.std.specs.Prelude.{List};
+    ghost use Rattle.bucket_model.specs.declared.history.Logged.{Logged};
+    ghost use Rattle.mem_store.specs.Kept.{IsKept};
+
+    ghost Value = { List Logged };
+
+    ghost view = { λ a. a.log.items };
+
+    ghost invariant = { λ a. IsKept a.objects a.log.items a.versions };
+}
+
+impl MemStore {
+    /// A bucket of no objects. Takes no memory.
+    pub fn new(alloc: Global) -> Result<MemStore, AllocError>
+        ensures ok { IsOk result }
+        ensures empty { IfOk result (λ store. store ≡ []) }
+        ensures honest { IfOk result (λ store. IsLegalHistory store) }
+    {
+        Ok(MemStore {
+            objects: BTreeMap::new(alloc),
+            log: Vec::new(alloc),
+            versions: 0,
+            alloc,
+        })
+    }
+
+    fn head(&mut self, key: Key) -> (u64, Answer)
+        ensures { IsServed (Head key) self.old self.new result.0 (brief_of result.1) }
+    {
+        let place = self.log.len() as u64;
+        match self.log.reserve(1) {
+            Ok(()) => {}
+            Err(_) => return (place, Answer::NoMemory),
+        }
+        let answer = head_answer(&self.objects, &key);
+        add_entry(&mut self.log, Call::Head { key }, &answer);
+        (place, answer)
+    }
+
+    fn probe(&mut self, key: Key) -> (u64, Answer)
+        ensures { IsServed (Probe key) self.old self.new result.0 (brief_of result.1) }
+    {
+        let place = self.log.len() as u64;
+        match self.log.reserve(1) {
+            Ok(()) => {}
+            Err(_) => return (place, Answer::NoMemory),
+        }
+        let found = match finds_below(&self.objects, self.alloc, &key) {
+            Ok(found) => found,
+            Err(_) => return (place, Answer::NoMemory),
+        };
+        let answer = probe_answer(found);
+        add_entry(&mut self.log, Call::Probe { key }, &answer);
+        (place, answer)
+    }
+
+    fn put(&mut self, key: Key, bytes: Bytes) -> (u64, Answer)
+        ensures { IsServed (Put key bytes) self.old self.new result.0 (brief_of result.1) }
+    {
+        let place = self.log.len() as u64;
+        match self.log.reserve(1) {
+            Ok(()) => {}
+            Err(_) => return (place, Answer::NoMemory),
+        }
+        let number = self.versions + 1;
+        let answer = match put_version(&mut self.objects, self.alloc, &key, &bytes, number) {
+            Ok(etag) => Answer::Made(etag),
+            Err(_) => return (place, Answer::NoMemory),
+        };
+        self.versions = number;
+        add_entry(&mut self.log, Call::Put { key, bytes }, &answer);
+        (place, answer)
+    }
+}
+
+impl Store for MemStore {
+    ghost history = { λ log. Some (history_of log) };
+
+    ghost position = { λ log. length log };
+
+    ghost faults = { λ _. 0 };
+
+    ghost is_alone = { λ _. Unit {0} };
+
+    ghost is_honest = { λ log. IsLegalHistory log };
+
+    fn call(&mut self, call: Call) -> (u64, Answer) {
+        match call {
+            Call::Head { key } => self.head(key),
+            Call::Probe { key } => self.probe(key),
+            Call::Put { key, bytes } => self.put(key, bytes),
+        }
+    }
+
+    fn mark(&self) -> u64 {
+        self.log.len() as u64
+    }
+
+    ghost position_is = { position_is };
+
+    ghost honest_is_legal = { honest_is_legal };
+}
+
+#[cfg(test)]
+mod tests {
+    use super::*;
+    use bucket_model::Brief;
+    use mp_types::ETag;
+    use std::test::Fail;
+
+    fn head(store: &mut MemStore, alloc: Global, key: &str) -> Result<(u64, Brief), Fail> {
+        let key = Key::parse(alloc, key)?;
+        let (place, answer) = store.call(Call::Head { key });
+        Ok((place, answer.brief()))
+    }
+
+    fn probe(store: &mut MemStore, alloc: Global, key: &str) -> Result<(u64, Brief), Fail> {
+        let key = Key::parse(alloc, key)?;
+        let (place, answer) = store.call(Call::Probe { key });
+        Ok((place, answer.brief()))
+    }
+
+    fn put(
+        store: &mut MemStore,
+        alloc: Global,
+        key: &str,
+        bytes: &[u8],
+    ) -> Result<(u64, Brief), Fail> {
+        let key = Key::parse(alloc, key)?;
+        let bytes = Bytes::from_vec(Vec::from_slice(alloc, bytes)?)?;
+        let (place, answer) = store.call(Call::Put { key, bytes });
+        Ok((place, answer.brief()))
+    }
+
+    fn found(etag: &str, size: u64) -> Result<Brief, Fail> {
+        let etag = ETag::parse(etag)?;
+        Ok(Brief::Found { etag, size })
+    }
+
+    #[test]
+    fn calls_are_answered_by_what_was_put(rt: HostRuntime) -> Result<(), Fail> {
+        let alloc = rt.alloc();
+        let mut store = MemStore::new(alloc)?;
+        assert_eq!(rt; head(&mut store, alloc, "a")?, (0, Brief::Missing));
+        assert_eq!(rt;
+            put(&mut store, alloc, "a", b"hello")?,
+            (1, Brief::Made(ETag::parse("v1")?))
+        );
+        assert_eq!(rt; head(&mut store, alloc, "a")?, (2, found("v1", 5)?));
+        assert_eq!(rt; probe(&mut store, alloc, "a")?, (3, Brief::No));
+        assert_eq!(rt;
+            put(&mut store, alloc, "a/b", b"")?,
+            (4, Brief::Made(ETag::parse("v2")?))
+        );
+        assert_eq!(rt; probe(&mut store, alloc, "a")?, (5, Brief::Yes));
+        assert_eq!(rt; probe(&mut store, alloc, "b")?, (6, Brief::No));
+        assert_eq!(rt;
+            put(&mut store, alloc, "a", b"new")?,
+            (7, Brief::Made(ETag::parse("v3")?))
+        );
+        assert_eq!(rt; head(&mut store, alloc, "a")?, (8, found("v3", 3)?));
+        assert_eq!(rt; store.mark(), 9);
+        Ok(())
+    }
+}
