@@ -1,0 +1,30 @@
+-- Words, and the request that they spell.
+use Rattle.std.proofs.Common.{◌≡◌, ℕ, List, [], ◌∷◌, Ok, Err, refl}
+use Rattle.mount_model.specs.declared.fault.ScriptCause.{ScriptCause}
+use Rattle.mount_model.specs.declared.fault.ScriptCause.TheVariants as cause
+use Rattle.mount_model.specs.declared.request.Request.{Request}
+use Rattle.mount_model.specs.ScriptText.{await_of, actor_of, request_of, words_request, words_asked}
+use Rattle.mp_script.specs.declared.fault.Fault.{Fault}
+use Rattle.mp_script.specs.declared.fault.Fault.TheVariants as fault
+use Rattle.mp_script.specs.Reads.{Fails, asked}
+use Rattle.mp_script.specs.Words.{words_of}
+use Rattle.mp_script.proofs.Pieces.{has_first}
+
+pub awaits_none : (text : List ℕ) → await_of (words_of text) ≡ Err cause.Words
+awaits_none text = rw (has_first 32 text).is_parted refl
+
+pub verb_fails : (actor : ℕ) (parts : List (List ℕ)) (verb : List ℕ) (words : List (List ℕ)) (why : ScriptCause) → parts ≡ verb ∷ words → request_of actor verb words ≡ Err why → words_request actor parts ≡ Err why
+verb_fails actor parts verb words why e h = rw e h
+
+pub actor_fails : (parts : List (List ℕ)) (first : List ℕ) (words : List (List ℕ)) (why : ScriptCause) → parts ≡ first ∷ words → Err why ≡ actor_of first → words_asked parts ≡ Err why
+actor_fails parts first words why e h = rw (e, ← h) refl
+
+pub no_verb : (parts : List (List ℕ)) (first : List ℕ) (actor : ℕ) → parts ≡ first ∷ [] → Ok actor ≡ actor_of first → words_asked parts ≡ Err cause.Words
+no_verb parts first actor e h = rw (e, ← h) refl
+
+pub request_fails : (f : Fault) (parts : List (List ℕ)) (first : List ℕ) (words : List (List ℕ)) (actor : ℕ) → parts ≡ first ∷ words → Ok actor ≡ actor_of first → Fails f (words_request actor words) → Fails f (words_asked parts)
+request_fails fault.Memory parts first words actor e h fails = tt
+request_fails (fault.Cause why) parts first words actor e h fails = rw (e, ← h, fails) refl
+
+pub is_asked : (request : Request) (parts : List (List ℕ)) (first : List ℕ) (words : List (List ℕ)) (actor : ℕ) → parts ≡ first ∷ words → Ok actor ≡ actor_of first → words_request actor words ≡ Ok request → words_asked parts ≡ Ok (asked (actor, request))
+is_asked request parts first words actor e h is = rw (e, ← h, is) refl

@@ -1,0 +1,24 @@
+-- Words and verbs.
+use Rattle.std.specs.Prelude.{ℕ, List, Bool, ◌==◌, length, Result}
+use Rattle.std.specs.List.{list_any, slice_split}
+use Rattle.mount_model.specs.declared.fault.ScriptCause.{ScriptCause}
+use Rattle.mount_model.specs.declared.request.Request.{Request}
+use Rattle.mount_model.specs.ScriptText.{await_of, stat_of, put_of}
+use Rattle.mp_script.specs.declared.request.Verb.{Verb}
+use Rattle.mp_script.specs.declared.request.Verb.TheVariants.{Await, Stat, Put}
+
+abbrev pub has : ℕ → List ℕ → Bool
+has separator text = list_any (λ byte. byte == separator) text
+
+-- the words of a line stand between single spaces
+abbrev pub words_of : List ℕ → List (List ℕ)
+words_of text = slice_split (λ byte. byte == 32) text
+
+abbrev pub has_empty : List ℕ → Bool
+has_empty line = list_any (λ word. length word == 0) (words_of line)
+
+-- the request of a verb, with the words behind it
+abbrev pub verb_request : Verb → List (List ℕ) → Result Request ScriptCause
+verb_request Await words = await_of words
+verb_request Stat words = stat_of words
+verb_request Put words = put_of words

@@ -1,0 +1,39 @@
+ghost use Rattle.std.specs.Prelude.{◌≡◌};
+ghost use Rattle.mp_script.specs.declared.fault.Fault.TheVariants as fault;
+
+use mount_model::{ScriptCause, What};
+use std::alloc::{AllocError, AllocFailed};
+
+/// Why bytes were not read as a script.
+#[derive(Clone, Copy, Debug, PartialEq, Eq)]
+pub enum ScriptError {
+    /// The first bad line, counted from 1, and the first thing that is wrong with it.
+    Bad { line: u32, cause: ScriptCause },
+    /// The script is too long; no line was looked at.
+    TooLong(What),
+    /// No memory.
+    Memory,
+}
+
+// Why a line was not read.
+#[derive(Clone, Copy, Debug, PartialEq, Eq)]
+pub enum Fault {
+    Cause(ScriptCause),
+    Memory,
+}
+
+impl From<ScriptCause> for Fault {
+    ghost from_gives = { λ cause f. f ≡ fault.Cause cause };
+
+    fn from(cause: ScriptCause) -> Fault {
+        Fault::Cause(cause)
+    }
+}
+
+impl From<AllocError> for Fault {
+    ghost from_gives = { λ _ f. f ≡ fault.Memory };
+
+    fn from(_error: AllocError) -> Fault {
+        Fault::Memory
+    }
+}

@@ -1,0 +1,87 @@
+ghost use Rattle.std.specs.Prelude.{◌≡◌, ◌<◌, ◌≤◌, ◌∷◌, length, IfOk};
+ghost use Rattle.mount_model.specs.Run.{AreRising};
+ghost use Rattle.mount_model.specs.ScriptText.{max_script_bytes, lines_of, script_of};
+ghost use Rattle.mp_script.specs.Reads.{ReadsScript, ReadsLines, AddsLine};
+
+use crate::cut::{Parted, cut};
+use crate::fault::{Fault, ScriptError};
+use crate::request::asked;
+use mount_model::{Line, Script, What};
+use mp_types::Items;
+use std::alloc::Global;
+
+// The first line, and the bytes behind its end.
+fn first_line(bytes: &[u8]) -> Parted<'_>
+    requires { 0 < length bytes.now }
+    ensures lines { lines_of bytes.now ≡ result.before.now ∷ lines_of result.after.now }
+    ensures shorter { length result.after.now < length bytes.now }
+{
+    match cut(bytes, b'\n') {
+        Some(parted) => parted,
+        None => Parted {
+            before: bytes,
+            after: &[],
+        },
+    }
+}
+
+// Adds the line of this number to those above it, unless it holds no request.
+fn add_line(
+    alloc: Global,
+    lines: &mut Vec<Line>,
+    number: u32,
+    text: &[u8],
+) -> Result<(), ScriptError>
+    ensures { AddsLine lines.old.items number text.now result lines.new.items }
+{
+    if text.is_empty() || text[0] == b'#' {
+        return Ok(());
+    }
+    let (actor, request) = match asked(alloc, text) {
+        Ok(asked) => asked,
+        Err(Fault::Cause(cause)) => {
+            return Err(ScriptError::Bad {
+                line: number,
+                cause,
+            });
+        }
+        Err(Fault::Memory) => return Err(ScriptError::Memory),
+    };
+    match lines.push(Line {
+        number,
+        actor,
+        request,
+    }) {
+        Ok(()) => Ok(()),
+        Err(_) => Err(ScriptError::Memory),
+    }
+}
+
+fn read_lines(alloc: Global, bytes: &[u8]) -> Result<Vec<Line>, ScriptError>
+    requires { length bytes.now ≤ max_script_bytes }
+    ensures { ReadsLines result (script_of bytes.now) }
+{
+    let mut lines = Vec::new(alloc);
+    let mut rest = bytes;
+    let mut number = 1u32;
+    while !rest.is_empty() {
+        let parted = first_line(rest);
+        add_line(alloc, &mut lines, number, parted.before)?;
+        number += 1;
+        rest = parted.after;
+    }
+    Ok(lines)
+}
+
+/// The lines that the bytes spell, numbered from 1 by their place in the text.
+/// A script has at most 67,108,864 bytes.
+pub fn read_script(alloc: Global, bytes: &[u8]) -> Result<Script, ScriptError>
+    ensures reads { ReadsScript bytes.now result }
+    ensures rising { IfOk result (AreRising 0) }
+{
+    if bytes.len() > 67_108_864 {
+        return Err(ScriptError::TooLong(What::Bytes));
+    }
+    let lines = read_lines(alloc, bytes)?;
+    Ok(Items::from_vec(lines))
+}

@@ -1,0 +1,116 @@
+use super::*;
+use mount_model::{Request, ScriptCause};
+use mp_types::Data;
+use std::alloc::Global;
+use std::test::*;
+
+fn bad(line: u32, cause: ScriptCause) -> Option<ScriptError> {
+    Some(ScriptError::Bad { line, cause })
+}
+
+fn fault(alloc: Global, bytes: &[u8]) -> Option<ScriptError> {
+    read_script(alloc, bytes).err()
+}
+
+#[test]
+fn each_verb_is_read(rt: HostRuntime) -> Result<(), Fail> {
+    let script = read_script(rt.alloc(), b"0 put a thello\n1 await\n012 stat /a")
+        .ok()
+        .ok_or("it is a script")?;
+    let [first, second, third] = script.as_slice() else {
+        return Err("there are three lines".into());
+    };
+    assert_eq!(rt; (first.number, first.actor), (1, 0));
+    let Request::Put {
+        key,
+        content: Data::Literal(bytes),
+    } = &first.request
+    else {
+        return Err("the first line is a put".into());
+    };
+    assert_eq!(rt; key.as_str(), "a");
+    assert_eq!(rt; bytes.as_slice(), b"hello".as_slice());
+    assert_eq!(rt; (second.number, second.actor), (2, 1));
+    assert!(rt; matches!(second.request, Request::Await));
+    assert_eq!(rt; (third.number, third.actor), (3, 12));
+    let Request::Stat { path } = &third.request else {
+        return Err("the third line is a stat".into());
+    };
+    assert_eq!(rt; path.as_str(), "/a");
+    Ok(())
+}
+
+#[test]
+fn passed_lines_keep_their_numbers(rt: HostRuntime) -> Result<(), Fail> {
+    let script = read_script(rt.alloc(), b"\n# a comment \n#\n7 await\n\n8 await\n")
+        .ok()
+        .ok_or("it is a script")?;
+    let [first, second] = script.as_slice() else {
+        return Err("there are two lines".into());
+    };
+    assert_eq!(rt; (first.number, first.actor), (4, 7));
+    assert_eq!(rt; (second.number, second.actor), (6, 8));
+    Ok(())
+}
+
+#[test]
+fn faulty_paths_are_read(rt: HostRuntime) -> Result<(), Fail> {
+    let script = read_script(rt.alloc(), b"1 stat f\n1 stat /..\n1 stat //a\n1 stat /a/")
+        .ok()
+        .ok_or("it is a script")?;
+    assert_eq!(rt; script.len(), 4);
+    Ok(())
+}
+
+#[test]
+fn the_empty_script_has_no_lines(rt: HostRuntime) -> Result<(), Fail> {
+    let script = read_script(rt.alloc(), b"").ok().ok_or("it is a script")?;
+    assert_eq!(rt; script.len(), 0);
+    Ok(())
+}
+
+#[test]
+fn the_first_bad_line_is_told(rt: HostRuntime) {
+    let script = b"1 await\n\n1000 await\n1  await".as_slice();
+    assert_eq!(rt; fault(rt.alloc(), script), bad(3, ScriptCause::Actor));
+}
+
+#[test]
+fn the_first_fault_of_a_line_is_told(rt: HostRuntime) {
+    let cases = [
+        (b"1000 frob".as_slice(), ScriptCause::Actor),
+        (b"1000".as_slice(), ScriptCause::Actor),
+        (b"1 frob /a".as_slice(), ScriptCause::Verb),
+        (b"1 put a t".as_slice(), ScriptCause::Verb),
+        (b"1000  await".as_slice(), ScriptCause::Words),
+        (b"1 stat".as_slice(), ScriptCause::Words),
+        (b"0 put a t t".as_slice(), ScriptCause::Words),
+        (b"1 stat /a%20".as_slice(), ScriptCause::Escape),
+        (b"0 put a x00".as_slice(), ScriptCause::Data),
+        (b"1 stat /".as_slice(), ScriptCause::Path),
+        (b"1 stat /a/b".as_slice(), ScriptCause::Path),
+    ];
+    for (line, cause) in cases {
+        assert_eq!(rt; fault(rt.alloc(), line), bad(1, cause));
+    }
+}
+
+// A put to a key of this many bytes.
+fn put_to_long_key(alloc: Global, len: usize) -> Result<Option<ScriptError>, Fail> {
+    let mut line = Vec::from_slice(alloc, b"0 put ")?;
+    for _ in 0..len {
+        line.push(b'k')?;
+    }
+    line.extend_from_slice(b" t")?;
+    Ok(fault(alloc, line.as_slice()))
+}
+
+#[test]
+fn a_key_has_at_most_1024_bytes(rt: HostRuntime) -> Result<(), Fail> {
+    assert_eq!(rt; put_to_long_key(rt.alloc(), 1024)?, None);
+    assert_eq!(rt;
+        put_to_long_key(rt.alloc(), 1025)?,
+        bad(1, ScriptCause::Key)
+    );
+    Ok(())
+}
