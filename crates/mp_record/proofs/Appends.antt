@@ -1,0 +1,61 @@
+-- What one write after another leaves in a sink.
+use Rattle.std.proofs.Common.{◌≡◌, ℕ, ◌-◌, List, [], ◌++◌, length, take, drop, Option, Some, None, Ok, sym, ◌∙◌, ap, subst, append_assoc, append-nil}
+use Rattle.std.proofs.lemmas.List.{take-append-drop, take_rest}
+use Rattle.mp_io.specs.Bytes.{Writes}
+use Rattle.mp_record.specs.Appends.{Appends, AppendsBut, AppendsFront}
+
+-- one text appended, and then another
+pub Appends-append : (held : Option (List ℕ)) (text : List ℕ) (now : Option (List ℕ)) (more : List ℕ) (after : Option (List ℕ)) → Appends held text now → Appends now more after → Appends held (text ++ more) after
+Appends-append None text None more None one two = tt
+Appends-append None text None more (Some after) one two = absurd two
+Appends-append None text (Some now) more after one two = absurd one
+Appends-append (Some held) text None more after one two = absurd one
+Appends-append (Some held) text (Some now) more None one two = absurd two
+Appends-append (Some held) text (Some now) more (Some after) one two = rw (two, one) (append_assoc held text more)
+
+-- what a write appends
+pub Appends-write : (held : Option (List ℕ)) (piece : List ℕ) (count : ℕ) (after : Option (List ℕ)) → Writes held piece (Ok count) after → Appends held (take count piece) after
+Appends-write None piece count None writes = tt
+Appends-write None piece count (Some after) writes = absurd writes
+Appends-write (Some held) piece count None writes = absurd writes
+Appends-write (Some held) piece count (Some after) writes = writes
+
+-- the first part of the rest is appended
+pub AppendsBut-less : (held : Option (List ℕ)) (text rest : List ℕ) (now : Option (List ℕ)) (piece left : List ℕ) (after : Option (List ℕ)) → AppendsBut held text rest now → Appends now piece after → piece ++ left ≡ rest → AppendsBut held text left after
+AppendsBut-less held text rest now piece left after but more is =
+    record { front = but.front ++ piece; appended = Appends-append held but.front now piece after but.appended more; whole = append_assoc but.front piece left ∙ (ap (λ t. but.front ++ t) is ∙ but.whole) }
+
+-- the text and its rest go on
+pub AppendsBut-more : (held : Option (List ℕ)) (text rest : List ℕ) (now : Option (List ℕ)) (more : List ℕ) → AppendsBut held text rest now → AppendsBut held (text ++ more) (rest ++ more) now
+AppendsBut-more held text rest now more but =
+    record { front = but.front; appended = but.appended; whole = sym (append_assoc but.front rest more) ∙ ap (λ t. t ++ more) but.whole }
+
+-- no rest is left
+pub Appends-all : (held : Option (List ℕ)) (text : List ℕ) (now : Option (List ℕ)) → AppendsBut held text [] now → Appends held text now
+Appends-all held text now but = subst (λ (t : List ℕ). Appends held t now) (sym (append-nil but.front) ∙ but.whole) but.appended
+
+pub AppendsBut-none : (held : Option (List ℕ)) (text : List ℕ) (now : Option (List ℕ)) → Appends held text now → AppendsBut held text [] now
+AppendsBut-none held text now all = record { front = text; appended = all; whole = append-nil text }
+
+-- after one write
+pub AppendsBut-write : (held : Option (List ℕ)) (text rest : List ℕ) (now : Option (List ℕ)) (count : ℕ) (after : Option (List ℕ)) → AppendsBut held text rest now → Writes now rest (Ok count) after → AppendsBut held text (take (length rest - count) (drop count rest)) after
+AppendsBut-write held text rest now count after but writes =
+    rw (take_rest rest count) (AppendsBut-less held text rest now (take count rest) (drop count rest) after but (Appends-write now rest count after writes) (take-append-drop count rest))
+
+-- the rest is appended but for a rest of it
+pub AppendsBut-rest : (held : Option (List ℕ)) (text rest : List ℕ) (now : Option (List ℕ)) (left : List ℕ) (after : Option (List ℕ)) → AppendsBut held text rest now → AppendsBut now rest left after → AppendsBut held text left after
+AppendsBut-rest held text rest now left after but more =
+    AppendsBut-less held text rest now more.front left after but more.appended more.whole
+
+-- a front of the rest is appended
+pub AppendsFront-rest : (held : Option (List ℕ)) (text rest : List ℕ) (now after : Option (List ℕ)) → AppendsBut held text rest now → AppendsFront now rest after → AppendsFront held text after
+AppendsFront-rest held text rest now after but front =
+    (front.0, AppendsBut-less held text rest now front.1.front front.0 after but front.1.appended front.1.whole)
+
+-- a front of a text is a front of a longer one
+pub AppendsFront-more : (held : Option (List ℕ)) (text more whole : List ℕ) (now : Option (List ℕ)) → text ++ more ≡ whole → AppendsFront held text now → AppendsFront held whole now
+AppendsFront-more held text more whole now is front =
+    (front.0 ++ more, subst (λ (t : List ℕ). AppendsBut held t (front.0 ++ more) now) is (AppendsBut-more held text front.0 now more front.1))
+
+pub AppendsFront-same : (held : Option (List ℕ)) (text whole : List ℕ) (now : Option (List ℕ)) → text ≡ whole → AppendsFront held text now → AppendsFront held whole now
+AppendsFront-same held text whole now is front = (front.0, subst (λ (t : List ℕ). AppendsBut held t front.0 now) is front.1)

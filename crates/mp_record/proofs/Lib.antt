@@ -1,0 +1,4 @@
+pub mod Appends
+pub mod Escaped
+pub mod Items
+pub mod RecordText

@@ -1,0 +1,155 @@
+ghost use Rattle.std.specs.Prelude.{◌≡◌, ◌++◌, codes, decimal, OnOk};
+ghost use Rattle.mount_model.specs.RecordText.{answer_text, event_text, owner_text, escaped, call_text, ask_text};
+ghost use Rattle.mp_record.specs.ItemText.{item_text};
+
+use crate::escape::push_escaped;
+use crate::reply_text::push_reply;
+use bucket_model::Brief;
+use itoa::Buffer;
+use mount_model::{Ask, AskedCall, Event, Item, Owner};
+use mp_types::{ETag, Key};
+use std::alloc::AllocError;
+
+pub fn push_number(out: &mut Vec<u8>, number: u64) -> Result<(), AllocError>
+    ensures { OnOk result (out.new.items ≡ out.old.items ++ decimal number) }
+{
+    out.extend_from_slice(Buffer::new().format(number).as_bytes())
+}
+
+fn push_found(out: &mut Vec<u8>, etag: &ETag, size: u64) -> Result<(), AllocError>
+    ensures { OnOk result (out.new.items ≡ out.old.items ++ (codes "found " ++ (etag.now ++ (codes " " ++ decimal size)))) }
+{
+    out.extend_from_slice(b"found ")?;
+    out.extend_from_slice(etag.as_bytes())?;
+    out.extend_from_slice(b" ")?;
+    push_number(out, size)
+}
+
+pub fn push_made(out: &mut Vec<u8>, etag: &ETag) -> Result<(), AllocError>
+    ensures { OnOk result (out.new.items ≡ out.old.items ++ (codes "made " ++ etag.now)) }
+{
+    out.extend_from_slice(b"made ")?;
+    out.extend_from_slice(etag.as_bytes())
+}
+
+fn push_answer(out: &mut Vec<u8>, answer: &Brief) -> Result<(), AllocError>
+    ensures { OnOk result (out.new.items ≡ out.old.items ++ answer_text answer.now) }
+{
+    match answer {
+        Brief::Found { etag, size } => push_found(out, etag, *size),
+        Brief::Missing => out.extend_from_slice(b"missing"),
+        Brief::Yes => out.extend_from_slice(b"yes"),
+        Brief::No => out.extend_from_slice(b"no"),
+        Brief::Made(etag) => push_made(out, etag),
+        Brief::Fault => out.extend_from_slice(b"fault"),
+        Brief::NoMemory => out.extend_from_slice(b"nomemory"),
+    }
+}
+
+fn push_begin(out: &mut Vec<u8>, line: u32, time: u64) -> Result<(), AllocError>
+    ensures { OnOk result (out.new.items ≡ out.old.items ++ event_text (Event.Begin line time)) }
+{
+    out.extend_from_slice(b"B ")?;
+    push_number(out, u64::from(line))?;
+    out.extend_from_slice(b" ")?;
+    push_number(out, time)?;
+    out.extend_from_slice(b"\n")
+}
+
+fn push_take(out: &mut Vec<u8>, job: u64, time: u64, from: u64) -> Result<(), AllocError>
+    ensures { OnOk result (out.new.items ≡ out.old.items ++ event_text (Event.Take job time from)) }
+{
+    out.extend_from_slice(b"T ")?;
+    push_number(out, job)?;
+    out.extend_from_slice(b" ")?;
+    push_number(out, time)?;
+    out.extend_from_slice(b" ")?;
+    push_number(out, from)?;
+    out.extend_from_slice(b"\n")
+}
+
+fn push_done(out: &mut Vec<u8>, job: u64, position: u64, answer: &Brief) -> Result<(), AllocError>
+    ensures { OnOk result (out.new.items ≡ out.old.items ++ event_text (Event.Done job position answer.now)) }
+{
+    out.extend_from_slice(b"D ")?;
+    push_number(out, job)?;
+    out.extend_from_slice(b" ")?;
+    push_number(out, position)?;
+    out.extend_from_slice(b" ")?;
+    push_answer(out, answer)?;
+    out.extend_from_slice(b"\n")
+}
+
+fn push_event(out: &mut Vec<u8>, event: &Event) -> Result<(), AllocError>
+    ensures { OnOk result (out.new.items ≡ out.old.items ++ event_text event.now) }
+{
+    match event {
+        Event::Begin { line, time } => push_begin(out, *line, *time),
+        Event::Take { job, time, from } => push_take(out, *job, *time, *from),
+        Event::Done {
+            job,
+            position,
+            answer,
+        } => push_done(out, *job, *position, answer),
+    }
+}
+
+fn push_owner(out: &mut Vec<u8>, owner: Owner) -> Result<(), AllocError>
+    ensures { OnOk result (out.new.items ≡ out.old.items ++ owner_text owner) }
+{
+    match owner {
+        Owner::Line(number) => {
+            out.extend_from_slice(b"L")?;
+            push_number(out, u64::from(number))
+        }
+    }
+}
+
+fn push_key(out: &mut Vec<u8>, key: &Key) -> Result<(), AllocError>
+    ensures { OnOk result (out.new.items ≡ out.old.items ++ escaped key.now) }
+{
+    push_escaped(out, key.as_str().as_bytes())
+}
+
+fn push_call(out: &mut Vec<u8>, call: &AskedCall) -> Result<(), AllocError>
+    ensures { OnOk result (out.new.items ≡ out.old.items ++ call_text call.now) }
+{
+    match call {
+        AskedCall::Head { key } => {
+            out.extend_from_slice(b"head ")?;
+            push_key(out, key)
+        }
+        AskedCall::Probe { key } => {
+            out.extend_from_slice(b"probe ")?;
+            push_key(out, key)
+        }
+        AskedCall::Put { key, length } => {
+            out.extend_from_slice(b"put ")?;
+            push_key(out, key)?;
+            out.extend_from_slice(b" ")?;
+            push_number(out, *length)
+        }
+    }
+}
+
+fn push_ask(out: &mut Vec<u8>, ask: &Ask) -> Result<(), AllocError>
+    ensures { OnOk result (out.new.items ≡ out.old.items ++ ask_text ask.now) }
+{
+    out.extend_from_slice(b"A ")?;
+    push_number(out, ask.job)?;
+    out.extend_from_slice(b" ")?;
+    push_owner(out, ask.owner)?;
+    out.extend_from_slice(b" ")?;
+    push_call(out, &ask.call)?;
+    out.extend_from_slice(b"\n")
+}
+
+pub fn push_item(out: &mut Vec<u8>, item: &Item) -> Result<(), AllocError>
+    ensures { OnOk result (out.new.items ≡ out.old.items ++ item_text item.now) }
+{
+    match item {
+        Item::Event(event) => push_event(out, event),
+        Item::Ask(ask) => push_ask(out, ask),
+        Item::Reply(answered) => push_reply(out, answered),
+    }
+}

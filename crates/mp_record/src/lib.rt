@@ -1,0 +1,12 @@
+//! The text of a record, written to a sink. What the text is stands in mount_model's definitions.
+//! Nothing here decides what is recorded.
+#![tactic(auto)]
+
+mod escape;
+mod item_text;
+mod print;
+mod reply_text;
+mod write;
+
+pub use print::{PrintFault, print_record};
+pub use write::write_all;
