@@ -1,0 +1,283 @@
+-- Each legal step leaves an alive state alive.
+use Rattle.std.proofs.Common.{◌≡◌, ℕ, ◌+◌, ◌<◌, ◌≤◌, List, [], ◌∷◌, ◌++◌, map, fold, length, cond, Bool, true, false, ◌==◌, Option, Some, None, refl, sym, ap, ◌∙◌, subst, arith, append-nil, eq-eqb, ne_eqb}
+use Rattle.bucket_model.specs.Along.{Along}
+use Rattle.bucket_model.specs.declared.answer.Brief.{Brief}
+use Rattle.mount_model.specs.declared.request.Request.{Request}
+use Rattle.mount_model.specs.declared.request.Request.TheVariants.{Put, Await, Stat}
+use Rattle.mount_model.specs.declared.request.Line.{Line}
+use Rattle.mount_model.specs.declared.event.Event.{Event}
+use Rattle.mount_model.specs.declared.event.Event.TheVariants.{Begin, Take, Done}
+use Rattle.mount_model.specs.declared.event.Owner.{Owner}
+use Rattle.mount_model.specs.declared.event.Owner.TheVariants as owner
+use Rattle.mount_model.specs.declared.event.Ask.{Ask}
+use Rattle.mount_model.specs.declared.event.Answered.{Answered}
+use Rattle.mount_model.specs.declared.standing.Phase.{Phase}
+use Rattle.mount_model.specs.declared.standing.Phase.TheVariants.{Waiting, Begun, Replied}
+use Rattle.mount_model.specs.declared.standing.Standing.{Standing}
+use Rattle.mount_model.specs.Step.{Step}
+use Rattle.mount_model.specs.State.{ClientState, Job, JobPhase, Ready, Out, Gone, line_at, job_at, change_line, change_job, heard, owner_hears, lines_at, jobs_at, with_replies, job_of, time_after, positions_after, opening, after, state_after}
+use Rattle.mount_model.specs.Conversation.{next_of}
+use Rattle.mount_model.specs.Run.{AreRising, TakesTurn, Turn, TurnOf, next_at, turn_of_owner, turn_at, due_awaits, MayCome, MayDone, is_among, startable, ready, IsLegalStep, IsRunSoFar}
+use Rattle.run_laws.specs.Alive.{live_job, if_live, if_owner, jobs_at_once, jobs_wanted, AreOrderly, IsAlive}
+use Rattle.run_laws.proofs.Keyed.{total-at}
+use Rattle.run_laws.proofs.Lines.{Rises-lines, lines-change, lines-opening, line_at-same, line_at-other, with_replies-append}
+use Rattle.run_laws.proofs.Orderly.{Frees-same, orderly-begun, orderly-heard, startable-found}
+use Rattle.run_laws.proofs.Jobs.{job_number, Rises-jobs, length-change_job, numbered-change, ready-found, live-taken, live-gone}
+use Rattle.run_laws.specs.Alive.{total}
+use Rattle.run_laws.specs.Once.{begins, begun_in, replied_in}
+use Rattle.run_laws.specs.Calls.{may_ask}
+use Rattle.run_laws.proofs.Conversation.{left-falls}
+use Rattle.run_laws.specs.Work.{calls_left, line_work, job_work, work_left}
+use Rattle.run_laws.proofs.Work.{asked_work, begin-work, heard-work, taken-work, gone-work}
+use Rattle.run_laws.proofs.Turn.{IsOpen, IsClosed, close-turn, settle, turn-work, settle-work}
+
+-- before the first step
+
+opening-wanted : (n : ℕ) (script : List Line) → 0 ≡ jobs_wanted (line_at n (opening script).lines)
+opening-wanted n [] = refl
+opening-wanted n (line ∷ script) = go (line.number == n) (opening-wanted n script)
+  where
+    go : (b : Bool) → 0 ≡ jobs_wanted (line_at n (opening script).lines) → 0 ≡ jobs_wanted (cond b (Some (record { line = line; phase = Waiting })) (line_at n (opening script).lines))
+    go true e = refl
+    go false e = e
+
+opening-due : (script : List Line) → due_awaits (opening script).lines ≡ []
+opening-due [] = refl
+opening-due (line ∷ script) = refl
+
+opening-orderly : (busy : List ℕ) (script : List Line) → AreOrderly busy (opening script).lines
+opening-orderly busy [] = tt
+opening-orderly busy (line ∷ script) = opening-orderly (line.actor ∷ busy) script
+
+pub opening-alive : (script : List Line) → AreRising 0 script → IsAlive (opening script)
+opening-alive script rising = record {
+  rising = rw (lines-opening script) rising;
+  numbered = tt;
+  balanced = λ n. opening-wanted n script;
+  no_due = opening-due script;
+  orderly = opening-orderly [] script;
+}
+
+-- whose turn it is
+
+pub record IsDue (n : ℕ) (lines : List Standing) : Type 0 where
+  pub line : Line
+  pub answers : List Brief
+  pub stands : line_at n lines ≡ Some (record { line = line; phase = Begun answers })
+  pub wants : jobs_at_once line.request ≡ 1
+
+due-request : (n : ℕ) (lines : List Standing) (number actor : ℕ) (request : Request) (answers : List Brief) → line_at n lines ≡ Some (record { line = record { number = number; actor = actor; request = request }; phase = Begun answers }) → 1 ≤ jobs_at_once request → IsDue n lines
+due-request n lines number actor (Put key content) answers e h = record { line = record { number = number; actor = actor; request = Put key content }; answers = answers; stands = e; wants = refl }
+due-request n lines number actor Await answers e h = absurd (omega arith)
+due-request n lines number actor (Stat path) answers e h = record { line = record { number = number; actor = actor; request = Stat path }; answers = answers; stands = e; wants = refl }
+
+due-phase : (n : ℕ) (lines : List Standing) (line : Line) (phase : Phase) → line_at n lines ≡ Some (record { line = line; phase = phase }) → 1 ≤ jobs_wanted (Some (record { line = line; phase = phase })) → IsDue n lines
+due-phase n lines line Waiting e h = absurd (omega arith)
+due-phase n lines line (Begun answers) e h = due-request n lines line.number line.actor line.request answers e h
+due-phase n lines line Replied e h = absurd (omega arith)
+
+due-found : (n : ℕ) (lines : List Standing) (o : Option Standing) → line_at n lines ≡ o → 1 ≤ jobs_wanted o → IsDue n lines
+due-found n lines None e h = absurd (omega arith)
+due-found n lines (Some s) e h = due-phase n lines s.line s.phase e h
+
+-- a live job's owner
+pub owner-live : (n : ℕ) (phase : JobPhase) → (phase ≡ Gone → ⊥) → if_live phase (if_owner n (owner.Line n)) ≡ 1
+owner-live n Ready live = let same : (n == n) ≡ true = eq-eqb n n refl in rw same refl
+owner-live n (Out from) live = let same : (n == n) ≡ true = eq-eqb n n refl in rw same refl
+owner-live n Gone live = absurd (live refl)
+
+pub owner-due : (state : ClientState) (number n : ℕ) (job : Job) → IsAlive state → job_at number state.jobs ≡ Some job → job.owner ≡ owner.Line n → (job.phase ≡ Gone → ⊥) → IsDue n state.lines
+owner-due state number n job alive stands owns live =
+    let least = total-at job_number (live_job n) number state.jobs job stands in
+    let one : live_job n job ≡ 1 = ap (λ (o : Owner). if_live job.phase (if_owner n o)) owns ∙ owner-live n job.phase live in
+    let all = alive.balanced n in
+    due-found n state.lines (line_at n state.lines) refl (omega arith)
+
+-- the turn opens
+
+next_at-begun : (n : ℕ) (line : Line) (answers : List Brief) (lines : List Standing) → line_at n lines ≡ Some (record { line = line; phase = Begun answers }) → next_at n lines ≡ next_of line.request answers
+next_at-begun n line answers lines stands = rw stands refl
+
+begin-turn : (state : ClientState) (n : ℕ) (line : Line) → IsAlive state → is_among n (startable state.lines) ≡ true → line_at n state.lines ≡ Some (record { line = line; phase = Waiting }) → IsOpen n line [] (change_line n (λ phase. Begun []) state.lines) state.jobs
+begin-turn state n line alive may stands = record {
+  rising = rw (lines-change n (λ phase. Begun []) state.lines) alive.rising;
+  numbered = alive.numbered;
+  orderly = orderly-begun 0 n [] [] state.lines (Rises-lines 0 state.lines alive.rising) (Frees-same []) may alive.orderly;
+  stands = line_at-same n (λ phase. Begun []) state.lines (record { line = line; phase = Waiting }) stands;
+  none = alive.balanced n ∙ ap jobs_wanted stands;
+  balanced = λ m apart. alive.balanced m ∙ sym (ap jobs_wanted (line_at-other n m (λ phase. Begun []) state.lines apart));
+}
+
+done-turn : (state : ClientState) (number n from : ℕ) (job : Job) (answer : Brief) (due : IsDue n state.lines) → IsAlive state → job_at number state.jobs ≡ Some job → job.phase ≡ Out from → job.owner ≡ owner.Line n → IsOpen n due.line (due.answers ++ answer ∷ []) (change_line n (heard answer) state.lines) (change_job number Gone state.jobs)
+done-turn state number n from job answer due alive stands is_out owns = record {
+  rising = rw (lines-change n (heard answer) state.lines) alive.rising;
+  numbered = numbered-change 1 number Gone state.jobs alive.numbered;
+  orderly = orderly-heard [] n answer state.lines alive.orderly;
+  stands = line_at-same n (heard answer) state.lines (record { line = due.line; phase = Begun due.answers }) due.stands;
+  none =
+      let gone = live-gone 0 number n from state.jobs job (Rises-jobs 0 state.jobs alive.numbered) stands is_out in
+      let same : (n == n) ≡ true = eq-eqb n n refl in
+      let one : if_owner n job.owner ≡ 1 = ap (if_owner n) owns ∙ rw same refl in
+      let all = alive.balanced n in
+      let wanted : jobs_wanted (line_at n state.lines) ≡ 1 = ap jobs_wanted due.stands ∙ due.wants in
+      omega arith;
+  balanced = λ m apart.
+      let gone = live-gone 0 number m from state.jobs job (Rises-jobs 0 state.jobs alive.numbered) stands is_out in
+      let other : (n == m) ≡ false = ne_eqb n m (λ e. apart (sym e)) in
+      let not_own : if_owner m job.owner ≡ 0 = ap (if_owner m) owns ∙ rw other refl in
+      let all = alive.balanced m in
+      let kept : jobs_wanted (line_at m (change_line n (heard answer) state.lines)) ≡ jobs_wanted (line_at m state.lines) = ap jobs_wanted (line_at-other n m (heard answer) state.lines apart) in
+      omega arith;
+}
+
+-- what a done event means for its owner
+pub hears-is : (o : Option Job) (job : Job) (n : ℕ) (answer : Brief) (lines : List Standing) → o ≡ Some job → job.owner ≡ owner.Line n → owner_hears o answer lines ≡ change_line n (heard answer) lines
+hears-is o job n answer lines stands owns = ap (λ (t : Option Job). owner_hears t answer lines) stands ∙ ap (λ (t : Owner). owner_hears (Some (record { number = job.number; owner = t; call = job.call; phase = job.phase })) answer lines) owns
+
+pub turn-is : (o : Option Job) (job : Job) (n : ℕ) (lines : List Standing) → o ≡ Some job → job.owner ≡ owner.Line n → turn_of_owner o lines ≡ TurnOf n (next_at n lines)
+turn-is o job n lines stands owns = ap (λ (t : Option Job). turn_of_owner t lines) stands ∙ ap (λ (t : Owner). turn_of_owner (Some (record { number = job.number; owner = t; call = job.call; phase = job.phase })) lines) owns
+
+-- whose turn it is after the event, and how it stands
+pub record IsOpened (state : ClientState) (event : Event) : Type 0 where
+  pub n : ℕ
+  pub line : Line
+  pub answers : List Brief
+  pub old : Phase
+  pub found : line_at n state.lines ≡ Some (record { line = line; phase = old })
+  pub goes : Phase → Phase
+  pub lines_are : lines_at state.lines state.jobs event ≡ change_line n goes state.lines
+  pub begins_own : begins n event + begun_in old ≡ 1
+  pub begins_other : (m : ℕ) → (m ≡ n → ⊥) → begins m event ≡ 0
+  pub unanswered : replied_in old ≡ 0
+  pub calls : calls_left line.request answers ≤ may_ask old line.request
+  pub turn : turn_at state event ≡ TurnOf n (next_of line.request answers)
+  pub now : IsOpen n line answers (lines_at state.lines state.jobs event) (jobs_at state.jobs event)
+  pub spent : total line_work (lines_at state.lines state.jobs event) + total job_work (jobs_at state.jobs event) + asked_work (next_of line.request answers) < work_left state
+
+pub done-opens : (state : ClientState) (number position : ℕ) (answer : Brief) (o : Owner) → IsAlive state → (may : MayDone state number position answer) → may.job.owner ≡ o → IsOpened state (Done number position answer)
+done-opens state number position answer (owner.Line n) alive may owns =
+    let out : may.job.phase ≡ Out may.from = may.is_out in
+    let due = owner-due state number n may.job alive may.stands owns (λ gone. absurd (cc)) in
+    let hears = hears-is (job_at number state.jobs) may.job n answer state.lines may.stands owns in
+    let now = done-turn state number n may.from may.job answer due alive may.stands out owns in
+    record {
+      n = n;
+      line = due.line;
+      answers = due.answers ++ answer ∷ [];
+      old = Begun due.answers;
+      found = due.stands;
+      goes = heard answer;
+      lines_are = hears;
+      begins_own = refl;
+      begins_other = λ m apart. refl;
+      unanswered = refl;
+      calls = left-falls due.line.request answer due.answers;
+      turn = turn-is (job_at number state.jobs) may.job n (owner_hears (job_at number state.jobs) answer state.lines) may.stands owns ∙ ap (λ (t : List Standing). TurnOf n (next_at n t)) hears ∙ ap (TurnOf n) (next_at-begun n due.line (due.answers ++ answer ∷ []) (change_line n (heard answer) state.lines) now.stands);
+      now = subst (λ (t : List Standing). IsOpen n due.line (due.answers ++ answer ∷ []) t (change_job number Gone state.jobs)) (sym hears) now;
+      spent =
+          let same : total line_work (owner_hears (job_at number state.jobs) answer state.lines) ≡ total line_work (change_line n (heard answer) state.lines) = ap (total line_work) hears in
+          let lines_less = heard-work 0 n due.line due.answers answer state.lines (Rises-lines 0 state.lines alive.rising) due.stands in
+          let jobs_less = gone-work 0 number may.from may.job state.jobs (Rises-jobs 0 state.jobs alive.numbered) may.stands out in
+          omega arith;
+    }
+
+pub begin-opens : (state : ClientState) (n time : ℕ) → IsAlive state → is_among n (startable state.lines) ≡ true → IsOpened state (Begin n time)
+begin-opens state n time alive may =
+    let found = startable-found 0 n [] state.lines (Rises-lines 0 state.lines alive.rising) may in
+    let now = begin-turn state n found.line alive may found.stands in
+    record {
+      n = n;
+      line = found.line;
+      answers = [];
+      old = Waiting;
+      found = found.stands;
+      goes = λ phase. Begun [];
+      lines_are = refl;
+      begins_own = let same : (n == n) ≡ true = eq-eqb n n refl in rw same refl;
+      begins_other = λ m apart. let other : (n == m) ≡ false = ne_eqb n m (λ e. apart (sym e)) in rw other refl;
+      unanswered = refl;
+      calls = omega arith;
+      turn = ap (TurnOf n) (next_at-begun n found.line [] (change_line n (λ phase. Begun []) state.lines) now.stands);
+      now = now;
+      spent = let less = begin-work 0 n found.line state.lines (Rises-lines 0 state.lines alive.rising) found.stands in omega arith;
+    }
+
+-- each line is served after the step's own asks and replies
+
+turn-closes : (state : ClientState) (event : Event) (asks : List Ask) (own : List Answered) → length (jobs_at state.jobs event) ≡ length state.jobs → IsOpened state event → TakesTurn (length state.jobs + 1) (turn_at state event) asks own → IsClosed (with_replies (lines_at state.lines state.jobs event) own) (jobs_at state.jobs event ++ map (job_of state.lines) asks)
+turn-closes state event asks own same opened takes =
+    close-turn opened.n (length state.jobs) opened.line opened.answers state.lines (lines_at state.lines state.jobs event) (jobs_at state.jobs event) asks own opened.now (sym same) (subst (λ (t : Turn). TakesTurn (length state.jobs + 1) t asks own) opened.turn takes)
+
+closed-take : (state : ClientState) (number time from : ℕ) (asks : List Ask) (own : List Answered) → IsAlive state → is_among number (ready state.jobs) ≡ true → asks ≡ [] → own ≡ [] → IsClosed (with_replies state.lines own) (change_job number (Out from) state.jobs ++ map (job_of state.lines) asks)
+closed-take state number time from asks own alive may no_asks no_own =
+    let rises = Rises-jobs 0 state.jobs alive.numbered in
+    let found = ready-found 0 number state.jobs rises may in
+    rw (no_asks, no_own, append-nil) (record {
+      rising = alive.rising;
+      numbered = numbered-change 1 number (Out from) state.jobs alive.numbered;
+      orderly = alive.orderly;
+      balanced = λ m. live-taken 0 number m from state.jobs found.job rises found.stands found.phase ∙ alive.balanced m;
+    })
+
+pub closed-event : (state : ClientState) (event : Event) (asks : List Ask) (own : List Answered) → IsAlive state → MayCome state event → TakesTurn (length state.jobs + 1) (turn_at state event) asks own → IsClosed (with_replies (lines_at state.lines state.jobs event) own) (jobs_at state.jobs event ++ map (job_of state.lines) asks)
+closed-event state (Begin n time) asks own alive may takes = turn-closes state (Begin n time) asks own refl (begin-opens state n time alive may.1) takes
+closed-event state (Take number time from) asks own alive may takes = closed-take state number time from asks own alive may.1 takes.0 takes.1
+closed-event state (Done number position answer) asks own alive may takes = turn-closes state (Done number position answer) asks own (length-change_job number Gone state.jobs) (done-opens state number position answer may.job.owner alive may refl) takes
+
+-- a legal step leaves an alive state alive
+pub alive-step : (state : ClientState) (step : Step) → IsAlive state → IsLegalStep state step → IsAlive (after state step)
+alive-step state step alive legal =
+    let lines : List Standing = with_replies (lines_at state.lines state.jobs step.event) legal.own in
+    let jobs : List Job = jobs_at state.jobs step.event ++ map (job_of state.lines) step.asks in
+    let closed = closed-event state step.event step.asks legal.own alive legal.may_come legal.turn in
+    let same : with_replies (lines_at state.lines state.jobs step.event) step.replies ≡ with_replies lines (due_awaits lines) = ap (with_replies (lines_at state.lines state.jobs step.event)) legal.replies ∙ with_replies-append (lines_at state.lines state.jobs step.event) legal.own (due_awaits lines) in
+    subst (λ (t : List Standing). IsAlive (record { time = time_after state.time step.event; lines = t; jobs = jobs; positions = positions_after state.positions step.event })) (sym same)
+    (settle (time_after state.time step.event) lines jobs (positions_after state.positions step.event) closed)
+
+pub alive-steps : (state : ClientState) (steps : List Step) → IsAlive state → Along IsLegalStep after state steps → IsAlive (fold after state steps)
+alive-steps state [] alive run = alive
+alive-steps state (step ∷ steps) alive run = alive-steps (after state step) steps (alive-step state step alive run.0) run.1
+
+pub alive : (script : List Line) (steps : List Step) → AreRising 0 script → IsRunSoFar script steps → IsAlive (state_after script steps)
+alive script steps rising run = alive-steps (opening script) steps (opening-alive script rising) run
+
+-- each legal step leaves less to do
+
+event-take-work : (state : ClientState) (number time from : ℕ) (asks : List Ask) (own : List Answered) → IsAlive state → is_among number (ready state.jobs) ≡ true → asks ≡ [] → own ≡ [] → total line_work (with_replies state.lines own) + total job_work (change_job number (Out from) state.jobs ++ map (job_of state.lines) asks) < work_left state
+event-take-work state number time from asks own alive may no_asks no_own =
+    let rises = Rises-jobs 0 state.jobs alive.numbered in
+    let found = ready-found 0 number state.jobs rises may in
+    let less = taken-work 0 number from found.job state.jobs rises found.stands found.phase in
+    rw (no_asks, no_own, append-nil) (omega arith)
+
+turn-spends : (state : ClientState) (event : Event) (asks : List Ask) (own : List Answered) → IsOpened state event → TakesTurn (length state.jobs + 1) (turn_at state event) asks own → total line_work (with_replies (lines_at state.lines state.jobs event) own) + total job_work (jobs_at state.jobs event ++ map (job_of state.lines) asks) < work_left state
+turn-spends state event asks own opened takes =
+    let left = turn-work opened.n (length state.jobs + 1) opened.line opened.answers state.lines (lines_at state.lines state.jobs event) (jobs_at state.jobs event) asks own opened.now (subst (λ (t : Turn). TakesTurn (length state.jobs + 1) t asks own) opened.turn takes) in
+    let spent = opened.spent in
+    omega arith
+
+event-work : (state : ClientState) (event : Event) (asks : List Ask) (own : List Answered) → IsAlive state → MayCome state event → TakesTurn (length state.jobs + 1) (turn_at state event) asks own → total line_work (with_replies (lines_at state.lines state.jobs event) own) + total job_work (jobs_at state.jobs event ++ map (job_of state.lines) asks) < work_left state
+event-work state (Begin n time) asks own alive may takes = turn-spends state (Begin n time) asks own (begin-opens state n time alive may.1) takes
+event-work state (Take number time from) asks own alive may takes = event-take-work state number time from asks own alive may.1 takes.0 takes.1
+event-work state (Done number position answer) asks own alive may takes = turn-spends state (Done number position answer) asks own (done-opens state number position answer may.job.owner alive may refl) takes
+
+pub work_falls : (state : ClientState) (step : Step) → IsAlive state → IsLegalStep state step → work_left (after state step) < work_left state
+work_falls state step alive legal =
+    let event_lines : List Standing = lines_at state.lines state.jobs step.event in
+    let lines : List Standing = with_replies event_lines legal.own in
+    let closed = closed-event state step.event step.asks legal.own alive legal.may_come legal.turn in
+    let same : total line_work (with_replies event_lines step.replies) ≡ total line_work (with_replies lines (due_awaits lines)) = ap (λ (t : List Answered). total line_work (with_replies event_lines t)) legal.replies ∙ ap (total line_work) (with_replies-append event_lines legal.own (due_awaits lines)) in
+    let less = settle-work lines closed.rising in
+    let spent = event-work state step.event step.asks legal.own alive legal.may_come legal.turn in
+    omega arith
+
+-- so a run has no more steps than its script allows
+pub steps_left : (state : ClientState) (steps : List Step) → IsAlive state → Along IsLegalStep after state steps → length steps + work_left (fold after state steps) ≤ work_left state
+steps_left state [] alive run = omega arith
+steps_left state (step ∷ steps) alive run =
+    let first = work_falls state step alive run.0 in
+    let more = steps_left (after state step) steps (alive-step state step alive run.0) run.1 in
+    omega arith
+
+pub run_ends : (script : List Line) (steps : List Step) → AreRising 0 script → IsRunSoFar script steps → length steps + work_left (state_after script steps) ≤ work_left (opening script)
+run_ends script steps rising run = steps_left (opening script) steps (opening-alive script rising) run

@@ -1,0 +1,14 @@
+pub mod Keyed
+pub mod Lines
+pub mod Settled
+pub mod Orderly
+pub mod Jobs
+pub mod Conversation
+pub mod Work
+pub mod Turn
+pub mod Alive
+pub mod Served
+pub mod Quiet
+pub mod Order
+pub mod Once
+pub mod Calls

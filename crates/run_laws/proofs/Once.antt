@@ -1,0 +1,241 @@
+-- Each line begins at most once, and is answered at most once, behind its beginning.
+use Rattle.std.proofs.Common.{◌≡◌, ℕ, ◌+◌, ◌<◌, ◌≤◌, List, [], ◌∷◌, map, fold, length, cond, Bool, true, false, ◌==◌, Option, Some, None, inl, inr, refl, sym, ap, ◌∙◌, subst, arith, eqb-true, eq-eqb, ne_eqb}
+use Rattle.std.specs.List.{AllByRecursion}
+use Rattle.bucket_model.specs.Along.{Along}
+use Rattle.bucket_model.specs.declared.answer.Brief.{Brief}
+use Rattle.mount_model.specs.declared.request.Request.{Request}
+use Rattle.mount_model.specs.declared.request.Request.TheVariants.{Put, Await, Stat}
+use Rattle.mount_model.specs.declared.request.Reply.{Reply}
+use Rattle.mount_model.specs.declared.request.Reply.TheVariants as reply
+use Rattle.mp_types.specs.declared.errno.Errno.TheVariants.{Enomem}
+use Rattle.mount_model.specs.declared.request.Line.{Line}
+use Rattle.mount_model.specs.declared.event.Event.{Event}
+use Rattle.mount_model.specs.declared.event.Event.TheVariants.{Begin, Take, Done}
+use Rattle.mount_model.specs.declared.event.Ask.{Ask}
+use Rattle.mount_model.specs.declared.event.Answered.{Answered}
+use Rattle.mount_model.specs.declared.standing.Phase.{Phase}
+use Rattle.mount_model.specs.declared.standing.Phase.TheVariants.{Waiting, Begun, Replied}
+use Rattle.mount_model.specs.declared.standing.Standing.{Standing}
+use Rattle.mount_model.specs.Step.{Step}
+use Rattle.mount_model.specs.State.{ClientState, Job, line_at, change_line, lines_at, with_replies, opening, after, state_after}
+use Rattle.mount_model.specs.Conversation.{Next, Asks, Replies, Waits, next_of}
+use Rattle.mount_model.specs.Run.{AreRising, MayCome, TakesTurn, Turn, TurnOf, turn_at, due_awaits, IsLegalStep, IsRunSoFar, IsRun}
+use Rattle.run_laws.specs.Alive.{total, IsAlive}
+use Rattle.run_laws.specs.Order.{Rises, reply_line}
+use Rattle.run_laws.specs.Once.{begins, replies_to, begins_in, replies_in, begun_in, replied_in, for_phase}
+use Rattle.run_laws.proofs.Keyed.{item_at-key, total-append}
+use Rattle.run_laws.proofs.Quiet.{each-line}
+use Rattle.run_laws.proofs.Lines.{line_of, number_of, Rises-lines, line_at-same, line_at-other, with_replies-append, lines_of_run}
+use Rattle.run_laws.proofs.Settled.{standing, settled, settled-is, due-rise}
+use Rattle.run_laws.proofs.Turn.{IsOpen, by_number}
+use Rattle.run_laws.proofs.Alive.{IsOpened, begin-opens, done-opens, closed-event, alive-step, opening-alive, alive}
+
+-- how a line stands after a change, and which begins and replies the change counts
+record Moves (m : ℕ) (begun replied : ℕ) (before behind : List Standing) : Type 0 where
+  begun_is : for_phase begun_in (line_at m before) + begun ≡ for_phase begun_in (line_at m behind)
+  replied_is : for_phase replied_in (line_at m before) + replied ≡ for_phase replied_in (line_at m behind)
+
+no-move : (m : ℕ) (lines : List Standing) → Moves m 0 0 lines lines
+no-move m lines = record { begun_is = omega arith; replied_is = omega arith }
+
+-- what is answered further down is no reply to this line
+no-replies : (m above : ℕ) (replies : List Answered) → m ≤ above → Rises reply_line above replies → total (replies_to m) replies ≡ 0
+no-replies m above [] h r = refl
+no-replies m above (reply ∷ replies) h r =
+    let first : above < reply.line = r.0 in
+    let other : (reply.line == m) ≡ false = ne_eqb reply.line m (omega arith) in
+    let none : replies_to m reply ≡ 0 = rw other refl in
+    let more = no-replies m reply.line replies (omega arith) r.1 in
+    omega arith
+
+-- the awaits that are due
+
+moves-past : (m : ℕ) (s : Standing) (replied : ℕ) (before behind : List Standing) → (total_is : s.line.number ≡ m → replied ≡ 0) → Moves m 0 replied before behind → Moves m 0 replied (s ∷ before) (s ∷ behind)
+moves-past m s replied before behind none moves = go (s.line.number == m) refl
+  where
+    go : (b : Bool) → (s.line.number == m) ≡ b → Moves m 0 replied (s ∷ before) (s ∷ behind)
+    go true is = let zero_is : replied ≡ 0 = none (eqb-true s.line.number m is) in record { begun_is = rw is (omega arith); replied_is = rw is (omega arith) }
+    go false is = record { begun_is = rw is moves.begun_is; replied_is = rw is moves.replied_is }
+
+settled-moves-cons : (m number actor : ℕ) (request : Request) (phase : Phase) (lines : List Standing) → Rises reply_line number (due_awaits lines) → Moves m 0 (total (replies_to m) (due_awaits lines)) lines (settled lines) → Moves m 0 (total (replies_to m) (due_awaits (standing number actor request phase ∷ lines))) (standing number actor request phase ∷ lines) (settled (standing number actor request phase ∷ lines))
+settled-moves-cons m number actor request Waiting lines r moves = no-move m (standing number actor request Waiting ∷ lines)
+settled-moves-cons m number actor (Put key content) (Begun answers) lines r moves = no-move m (standing number actor (Put key content) (Begun answers) ∷ lines)
+settled-moves-cons m number actor Await (Begun answers) lines r moves = go (number == m) refl
+  where
+    go : (b : Bool) → (number == m) ≡ b → Moves m 0 (total (replies_to m) (due_awaits (standing number actor Await (Begun answers) ∷ lines))) (standing number actor Await (Begun answers) ∷ lines) (standing number actor Await Replied ∷ settled lines)
+    go true is =
+        let same : number ≡ m = eqb-true number m is in
+        let none = no-replies m number (due_awaits lines) (omega arith) r in
+        record { begun_is = rw is refl; replied_is = rw is (omega arith) }
+    go false is = record { begun_is = rw is moves.begun_is; replied_is = rw is (let more = moves.replied_is in omega arith) }
+settled-moves-cons m number actor (Stat path) (Begun answers) lines r moves = no-move m (standing number actor (Stat path) (Begun answers) ∷ lines)
+settled-moves-cons m number actor request Replied lines r moves = moves-past m (standing number actor request Replied) (total (replies_to m) (due_awaits lines)) lines (settled lines) (λ same. no-replies m number (due_awaits lines) (omega arith) r) moves
+
+settled-moves : (m above : ℕ) (lines : List Standing) → Rises number_of above lines → Moves m 0 (total (replies_to m) (due_awaits lines)) lines (settled lines)
+settled-moves m above [] r = record { begun_is = refl; replied_is = refl }
+settled-moves m above (s ∷ lines) r = settled-moves-cons m s.line.number s.line.actor s.line.request s.phase lines (due-rise s.line.number lines r.1) (settled-moves m s.line.number lines r.1)
+
+due-moves : (m : ℕ) (lines : List Standing) → AreRising 0 (map line_of lines) → Moves m 0 (total (replies_to m) (due_awaits lines)) lines (with_replies lines (due_awaits lines))
+due-moves m lines rising =
+    let rises = Rises-lines 0 lines rising in
+    subst (λ (t : List Standing). Moves m 0 (total (replies_to m) (due_awaits lines)) lines t) (sym (settled-is 0 lines rises)) (settled-moves m 0 lines rises)
+
+-- the event
+
+begun-moves : (state : ClientState) (event : Event) → (opened : IsOpened state event) → (m : ℕ) → Moves m (begins m event) 0 state.lines (lines_at state.lines state.jobs event)
+begun-moves state event opened = by_number opened.n (λ m. Moves m (begins m event) 0 state.lines (lines_at state.lines state.jobs event))
+    (let old_begun : for_phase begun_in (line_at opened.n state.lines) ≡ begun_in opened.old = ap (for_phase begun_in) opened.found in
+    let old_replied : for_phase replied_in (line_at opened.n state.lines) ≡ replied_in opened.old = ap (for_phase replied_in) opened.found in
+    let new_begun : for_phase begun_in (line_at opened.n (lines_at state.lines state.jobs event)) ≡ 1 = ap (for_phase begun_in) opened.now.stands in
+    let new_replied : for_phase replied_in (line_at opened.n (lines_at state.lines state.jobs event)) ≡ 0 = ap (for_phase replied_in) opened.now.stands in
+    let own = opened.begins_own in
+    let none = opened.unanswered in
+    record { begun_is = omega arith; replied_is = omega arith })
+    (λ m apart.
+    let same : line_at m (lines_at state.lines state.jobs event) ≡ line_at m state.lines = ap (line_at m) opened.lines_are ∙ line_at-other opened.n m opened.goes state.lines apart in
+    let none = opened.begins_other m apart in
+    let same_begun : for_phase begun_in (line_at m (lines_at state.lines state.jobs event)) ≡ for_phase begun_in (line_at m state.lines) = ap (for_phase begun_in) same in
+    let same_replied : for_phase replied_in (line_at m (lines_at state.lines state.jobs event)) ≡ for_phase replied_in (line_at m state.lines) = ap (for_phase replied_in) same in
+    record { begun_is = omega arith; replied_is = omega arith })
+
+-- the own reply
+
+own-moves : (n : ℕ) (line : Line) (answers : List Brief) (lines : List Standing) (jobs : List Job) (said : Reply) → IsOpen n line answers lines jobs → (m : ℕ) → Moves m 0 (total (replies_to m) (record { line = n; reply = said } ∷ [])) lines (change_line n (λ phase. Replied) lines)
+own-moves n line answers lines jobs said opened = by_number n (λ m. Moves m 0 (total (replies_to m) (record { line = n; reply = said } ∷ [])) lines (change_line n (λ phase. Replied) lines))
+    (let new = line_at-same n (λ phase. Replied) lines (record { line = line; phase = Begun answers }) opened.stands in
+    let old_begun : for_phase begun_in (line_at n lines) ≡ 1 = ap (for_phase begun_in) opened.stands in
+    let old_replied : for_phase replied_in (line_at n lines) ≡ 0 = ap (for_phase replied_in) opened.stands in
+    let new_begun : for_phase begun_in (line_at n (change_line n (λ phase. Replied) lines)) ≡ 1 = ap (for_phase begun_in) new in
+    let new_replied : for_phase replied_in (line_at n (change_line n (λ phase. Replied) lines)) ≡ 1 = ap (for_phase replied_in) new in
+    let same : (n == n) ≡ true = eq-eqb n n refl in
+    let one : replies_to n (record { line = n; reply = said }) ≡ 1 = rw same refl in
+    record { begun_is = omega arith; replied_is = omega arith })
+    (λ m apart.
+    let same = line_at-other n m (λ phase. Replied) lines apart in
+    let same_begun : for_phase begun_in (line_at m (change_line n (λ phase. Replied) lines)) ≡ for_phase begun_in (line_at m lines) = ap (for_phase begun_in) same in
+    let same_replied : for_phase replied_in (line_at m (change_line n (λ phase. Replied) lines)) ≡ for_phase replied_in (line_at m lines) = ap (for_phase replied_in) same in
+    let other : (n == m) ≡ false = ne_eqb n m (λ e. apart (sym e)) in
+    let none : replies_to m (record { line = n; reply = said }) ≡ 0 = rw other refl in
+    record { begun_is = omega arith; replied_is = omega arith })
+
+turn-moves : (n count : ℕ) (line : Line) (answers : List Brief) (lines : List Standing) (jobs : List Job) (asks : List Ask) (own : List Answered) → IsOpen n line answers lines jobs → TakesTurn count (TurnOf n (next_of line.request answers)) asks own → (m : ℕ) → Moves m 0 (total (replies_to m) own) lines (with_replies lines own)
+turn-moves n count line answers lines jobs asks own opened turn m = go (next_of line.request answers) turn
+  where
+    moves_by : (replied : List Answered) → own ≡ replied → Moves m 0 (total (replies_to m) replied) lines (with_replies lines replied) → Moves m 0 (total (replies_to m) own) lines (with_replies lines own)
+    moves_by replied e moves = subst (λ (t : List Answered). Moves m 0 (total (replies_to m) t) lines (with_replies lines t)) (sym e) moves
+
+    go : (next : Next) → TakesTurn count (TurnOf n next) asks own → Moves m 0 (total (replies_to m) own) lines (with_replies lines own)
+    go (Asks called) (inl t) = moves_by [] t.1 (no-move m lines)
+    go (Asks called) (inr t) = moves_by _ t.1 (own-moves n line answers lines jobs (reply.Failed Enomem) opened m)
+    go (Replies said) t = moves_by _ t.1 (own-moves n line answers lines jobs said opened m)
+    go Waits t = moves_by [] t.1 (no-move m lines)
+
+-- a step
+
+moves-then : (m begun first second : ℕ) (before between behind : List Standing) → Moves m begun first before between → Moves m 0 second between behind → Moves m begun (first + second) before behind
+moves-then m begun first second before between behind f s = let f1 = f.begun_is in let f2 = f.replied_is in let s1 = s.begun_is in let s2 = s.replied_is in record { begun_is = omega arith; replied_is = omega arith }
+
+opened-moves : (state : ClientState) (event : Event) (asks : List Ask) (own : List Answered) (m : ℕ) → IsOpened state event → TakesTurn (length state.jobs + 1) (turn_at state event) asks own → Moves m (begins m event) (0 + total (replies_to m) own) state.lines (with_replies (lines_at state.lines state.jobs event) own)
+opened-moves state event asks own m opened takes = moves-then m (begins m event) 0 (total (replies_to m) own) state.lines (lines_at state.lines state.jobs event) (with_replies (lines_at state.lines state.jobs event) own) (begun-moves state event opened m)
+    (turn-moves opened.n (length state.jobs + 1) opened.line opened.answers (lines_at state.lines state.jobs event) _ asks own opened.now (subst (λ (t : Turn). TakesTurn (length state.jobs + 1) t asks own) opened.turn takes) m)
+
+event-moves : (state : ClientState) (event : Event) (asks : List Ask) (own : List Answered) (m : ℕ) → IsAlive state → MayCome state event → TakesTurn (length state.jobs + 1) (turn_at state event) asks own → Moves m (begins m event) (0 + total (replies_to m) own) state.lines (with_replies (lines_at state.lines state.jobs event) own)
+event-moves state (Begin n time) asks own m alive may takes = opened-moves state (Begin n time) asks own m (begin-opens state n time alive may.1) takes
+event-moves state (Take number time from) asks own m alive may takes = subst (λ (t : List Answered). Moves m 0 (0 + total (replies_to m) t) state.lines (with_replies state.lines t)) (sym takes.1) (no-move m state.lines)
+event-moves state (Done number position answer) asks own m alive may takes = opened-moves state (Done number position answer) asks own m (done-opens state number position answer may.job.owner alive may refl) takes
+
+step-moves : (state : ClientState) (step : Step) (m : ℕ) → IsAlive state → IsLegalStep state step → Moves m (begins m step.event) (total (replies_to m) step.replies) state.lines (after state step).lines
+step-moves state step m alive legal =
+    let event_lines : List Standing = lines_at state.lines state.jobs step.event in
+    let lines : List Standing = with_replies event_lines legal.own in
+    let closed = closed-event state step.event step.asks legal.own alive legal.may_come legal.turn in
+    let first = event-moves state step.event step.asks legal.own m alive legal.may_come legal.turn in
+    let both = moves-then m (begins m step.event) (0 + total (replies_to m) legal.own) (total (replies_to m) (due_awaits lines)) state.lines lines (with_replies lines (due_awaits lines)) first (due-moves m lines closed.rising) in
+    let same : with_replies event_lines step.replies ≡ with_replies lines (due_awaits lines) = ap (with_replies event_lines) legal.replies ∙ with_replies-append event_lines legal.own (due_awaits lines) in
+    let count : total (replies_to m) step.replies ≡ total (replies_to m) legal.own + total (replies_to m) (due_awaits lines) = ap (total (replies_to m)) legal.replies ∙ total-append (replies_to m) legal.own (due_awaits lines) in
+    let same_begun : for_phase begun_in (line_at m (with_replies event_lines step.replies)) ≡ for_phase begun_in (line_at m (with_replies lines (due_awaits lines))) = ap (λ (t : List Standing). for_phase begun_in (line_at m t)) same in
+    let same_replied : for_phase replied_in (line_at m (with_replies event_lines step.replies)) ≡ for_phase replied_in (line_at m (with_replies lines (due_awaits lines))) = ap (λ (t : List Standing). for_phase replied_in (line_at m t)) same in
+    let b = both.begun_is in
+    let r = both.replied_is in
+    record { begun_is = omega arith; replied_is = omega arith }
+
+-- a run
+
+steps-move : (state : ClientState) (steps : List Step) (m : ℕ) → IsAlive state → Along IsLegalStep after state steps → Moves m (begins_in m steps) (replies_in m steps) state.lines (fold after state steps).lines
+steps-move state [] m alive run = no-move m state.lines
+steps-move state (step ∷ steps) m alive run =
+    let first = step-moves state step m alive run.0 in
+    let more = steps-move (after state step) steps m (alive-step state step alive run.0) run.1 in
+    let f1 = first.begun_is in
+    let f2 = first.replied_is in
+    let m1 = more.begun_is in
+    let m2 = more.replied_is in
+    record { begun_is = omega arith; replied_is = omega arith }
+
+opening-none : (count : Phase → ℕ) → count Waiting ≡ 0 → (m : ℕ) (script : List Line) → for_phase count (line_at m (opening script).lines) ≡ 0
+opening-none count none m [] = refl
+opening-none count none m (line ∷ script) = go (line.number == m) (opening-none count none m script)
+  where
+    go : (b : Bool) → for_phase count (line_at m (opening script).lines) ≡ 0 → for_phase count (cond b (Some (record { line = line; phase = Waiting })) (line_at m (opening script).lines)) ≡ 0
+    go true e = none
+    go false e = e
+
+pub begun_once : (script : List Line) (steps : List Step) (m : ℕ) → AreRising 0 script → IsRunSoFar script steps → begins_in m steps ≡ for_phase begun_in (line_at m (state_after script steps).lines)
+begun_once script steps m rising run =
+    let moves = steps-move (opening script) steps m (opening-alive script rising) run in
+    let none = opening-none begun_in refl m script in
+    let is = moves.begun_is in
+    omega arith
+
+pub replied_once : (script : List Line) (steps : List Step) (m : ℕ) → AreRising 0 script → IsRunSoFar script steps → replies_in m steps ≡ for_phase replied_in (line_at m (state_after script steps).lines)
+replied_once script steps m rising run =
+    let moves = steps-move (opening script) steps m (opening-alive script rising) run in
+    let none = opening-none replied_in refl m script in
+    let is = moves.replied_is in
+    omega arith
+
+-- at most once, and no reply before the beginning
+
+phase-most : (phase : Phase) → (replied_in phase ≤ begun_in phase) × (begun_in phase ≤ 1)
+phase-most Waiting = omega arith
+phase-most (Begun answers) = omega arith
+phase-most Replied = omega arith
+
+most : (o : Option Standing) → (for_phase replied_in o ≤ for_phase begun_in o) × (for_phase begun_in o ≤ 1)
+most None = omega arith
+most (Some s) = phase-most s.phase
+
+pub begins_once : (script : List Line) (steps : List Step) (m : ℕ) → AreRising 0 script → IsRunSoFar script steps → begins_in m steps ≤ 1
+begins_once script steps m rising run = let is = begun_once script steps m rising run in let bound = most (line_at m (state_after script steps).lines) in omega arith
+
+pub replies_behind : (script : List Line) (steps : List Step) (m : ℕ) → AreRising 0 script → IsRunSoFar script steps → replies_in m steps ≤ begins_in m steps
+replies_behind script steps m rising run =
+    let is = begun_once script steps m rising run in
+    let said = replied_once script steps m rising run in
+    let bound = most (line_at m (state_after script steps).lines) in
+    omega arith
+
+-- in a whole run each line has one reply
+
+pub found-one : (P : Standing → Type 0) (m : ℕ) (lines : List Standing) (s : Standing) → AllByRecursion P lines → line_at m lines ≡ Some s → P s
+found-one P m [] s all e = absurd (cc)
+found-one P m (first ∷ lines) s all e = go (first.line.number == m) e (found-one P m lines s all.1)
+  where
+    go : (b : Bool) → cond b (Some first) (line_at m lines) ≡ Some s → (line_at m lines ≡ Some s → P s) → P s
+    go true e ih = let same : first ≡ s = cc in subst P same all.0
+    go false e ih = ih e
+
+pub each-map : (P : Line → Type 0) (lines : List Standing) → AllByRecursion (λ s. P s.line) lines → AllByRecursion P (map line_of lines)
+each-map P [] all = tt
+each-map P (s ∷ lines) all = (all.0, each-map P lines all.1)
+
+pub each_replied : (script : List Line) (steps : List Step) → AreRising 0 script → IsRun script steps → AllByRecursion (λ line. replies_in line.number steps ≡ 1) script
+each_replied script steps rising run =
+    let lines : List Standing = (state_after script steps).lines in
+    let is_alive = alive script steps rising run.so_far in
+    let one : (n : ℕ) (s : Standing) → line_at n lines ≡ Some s → replies_in s.line.number steps ≡ 1 = λ n s e.
+    let number : s.line.number ≡ n = item_at-key number_of n lines s e in
+    let replied : s.phase ≡ Replied = found-one (λ s. s.phase ≡ Replied) n lines s run.quiet.answered e in
+    ap (λ (k : ℕ). replies_in k steps) number ∙ replied_once script steps n rising run.so_far ∙ ap (for_phase replied_in) e ∙ ap replied_in replied in
+    subst (λ (t : List Line). AllByRecursion (λ line. replies_in line.number steps ≡ 1) t) (lines_of_run script steps)
+    (each-map (λ line. replies_in line.number steps ≡ 1) lines (each-line (λ s. replies_in s.line.number steps ≡ 1) 0 lines (Rises-lines 0 lines is_alive.rising) one))

@@ -1,0 +1,15 @@
+use Rattle.run_laws.proofs.Conversation.{calls_left_fall, stat_calls, faulty_calls}
+use Rattle.run_laws.proofs.Calls.{calls_bound}
+use Rattle.run_laws.proofs.calls_are_few.Goals as goal
+
+pub returns-clause-run : goal.returns-clause-run
+returns-clause-run c = calls_bound
+
+pub returns-clause-falls : goal.returns-clause-falls
+returns-clause-falls c = calls_left_fall
+
+pub returns-clause-stat : goal.returns-clause-stat
+returns-clause-stat c = stat_calls
+
+pub returns-clause-faulty : goal.returns-clause-faulty
+returns-clause-faulty c = faulty_calls

@@ -1,0 +1,80 @@
+//! The laws of every run of the mount: what holds after each step, that no reply is lost, and that
+//! each run ends. Nothing here is executed: each function is a theorem, and its clauses say it.
+#![tactic(auto)]
+
+ghost use Rattle.std.specs.Prelude.{◌≡◌, ◌≢◌, ℕ, ◌+◌, ◌*◌, ◌<◌, ◌≤◌, List, [], ◌∷◌, ◌++◌, map, length, Result, Ok, Err, Some};
+ghost use Rattle.std.specs.List.{AllByRecursion};
+ghost use Rattle.mp_types.specs.Path.{path_of};
+ghost use Rattle.mp_types.specs.declared.octets.Data.{Data};
+ghost use Rattle.mp_types.specs.declared.path.PathFault.{PathFault};
+ghost use Rattle.bucket_model.specs.declared.call.Call.{Call};
+ghost use Rattle.bucket_model.specs.declared.answer.Brief.{Brief};
+ghost use Rattle.mount_model.specs.declared.request.Request.{Request};
+ghost use Rattle.mount_model.specs.declared.request.Request.TheVariants as request;
+ghost use Rattle.mount_model.specs.declared.request.Line.{Line};
+ghost use Rattle.mount_model.specs.declared.event.Owner.TheVariants as owner;
+ghost use Rattle.mount_model.specs.declared.standing.Phase.TheVariants.{Begun};
+ghost use Rattle.mount_model.specs.declared.standing.Standing.{Standing};
+ghost use Rattle.mount_model.specs.Conversation.{Asks, next_of};
+ghost use Rattle.mount_model.specs.Step.{Step};
+ghost use Rattle.mount_model.specs.State.{ClientState, Job, Gone, opening, after, state_after, line_at, job_at};
+ghost use Rattle.mount_model.specs.Run.{AreRising, IsLegalStep, IsRunSoFar, IsRun, IsQuiet, startable};
+ghost use Rattle.run_laws.specs.Alive.{IsAlive};
+ghost use Rattle.run_laws.specs.Calls.{asks_in};
+ghost use Rattle.run_laws.specs.Order.{IsInOrder};
+ghost use Rattle.run_laws.specs.Once.{begins_in, replies_in, replied_in, for_phase};
+ghost use Rattle.run_laws.specs.Served.{IsOwned, HasJob};
+ghost use Rattle.run_laws.specs.Work.{calls_left, work_left};
+
+/// What holds before the first step holds after each one.
+pub fn each_state_is_alive()
+    ensures { (script : List Line) (steps : List Step) → AreRising 0 script → IsRunSoFar script steps → IsAlive (state_after script steps) }
+{}
+
+/// A step changes how far lines have come, and not the lines.
+pub fn lines_stay()
+    ensures { (script : List Line) (steps : List Step) → map (λ s. s.line) (state_after script steps).lines ≡ script }
+{}
+
+/// Where no line may begin and no job is ready or out, each line has its reply: none waits for ever.
+pub fn no_reply_is_lost()
+    ensures { (script : List Line) (steps : List Step) → AreRising 0 script → IsRunSoFar script steps → startable (state_after script steps).lines ≡ [] → AllByRecursion (λ job. job.phase ≡ Gone) (state_after script steps).jobs → IsQuiet (state_after script steps) }
+{}
+
+/// Jobs that are ready or out, and lines that have begun and are no awaits, belong together one to one.
+pub fn each_job_has_its_line()
+    ensures owned { (state : ClientState) (number : ℕ) (job : Job) → IsAlive state → job_at number state.jobs ≡ Some job → job.phase ≢ Gone → IsOwned state job }
+    ensures alone { (state : ClientState) (i j line : ℕ) (first second : Job) → IsAlive state → job_at i state.jobs ≡ Some first → job_at j state.jobs ≡ Some second → first.phase ≢ Gone → second.phase ≢ Gone → first.owner ≡ owner.Line line → second.owner ≡ owner.Line line → i ≡ j }
+    ensures at_work { (state : ClientState) (number : ℕ) (standing : Standing) (answers : List Brief) → IsAlive state → line_at number state.lines ≡ Some standing → standing.phase ≡ Begun answers → standing.line.request ≢ request.Await → HasJob state number }
+{}
+
+/// The asks and the replies of a step are in the order in which its text has them.
+pub fn each_step_is_in_order()
+    ensures { (script : List Line) (steps : List Step) → AreRising 0 script → IsRunSoFar script steps → AllByRecursion IsInOrder steps }
+{}
+
+/// A line begins at most once and gets at most one reply, in the step in which it begins or a later one:
+/// each front of a run is a run so far. In a whole run each line gets its one reply.
+pub fn each_line_is_answered_once()
+    ensures begun { (script : List Line) (steps : List Step) (number : ℕ) → AreRising 0 script → IsRunSoFar script steps → begins_in number steps ≤ 1 }
+    ensures behind { (script : List Line) (steps : List Step) (number : ℕ) → AreRising 0 script → IsRunSoFar script steps → replies_in number steps ≤ begins_in number steps }
+    ensures phase { (script : List Line) (steps : List Step) (number : ℕ) → AreRising 0 script → IsRunSoFar script steps → replies_in number steps ≡ for_phase replied_in (line_at number (state_after script steps).lines) }
+    ensures each { (script : List Line) (steps : List Step) → AreRising 0 script → IsRun script steps → AllByRecursion (λ line. replies_in line.number steps ≡ 1) script }
+{}
+
+/// Each step leaves less to do, so that a run has no more steps than the work in its script.
+pub fn each_run_ends()
+    ensures step { (state : ClientState) (step : Step) → IsAlive state → IsLegalStep state step → work_left (after state step) < work_left state }
+    ensures run { (script : List Line) (steps : List Step) → AreRising 0 script → IsRunSoFar script steps → length steps + work_left (state_after script steps) ≤ work_left (opening script) }
+{}
+
+/// A line asks for at most so many jobs as its request has calls: a put has 1, a stat at most 2 for each
+/// name of its path, and an await none.
+pub fn calls_are_few()
+    ensures run { (script : List Line) (steps : List Step) → AreRising 0 script → IsRunSoFar script steps → AllByRecursion (λ line. asks_in line.number steps ≤ calls_left line.request []) script }
+    ensures falls { (request : Request) (answers : List Brief) (called : Call) (answer : Brief) → next_of request answers ≡ Asks called → calls_left request (answers ++ answer ∷ []) < calls_left request answers }
+    ensures put { (key : List ℕ) (content : Data) → calls_left (request.Put key content) [] ≡ 1 }
+    ensures stat { (path : List ℕ) (names : List (List ℕ)) → path_of path ≡ Ok names → calls_left (request.Stat path) [] ≤ 2 * length names }
+    ensures faulty { (path : List ℕ) (why : PathFault) → path_of path ≡ Err why → calls_left (request.Stat path) [] ≡ 0 }
+    ensures waits { calls_left request.Await [] ≡ 0 }
+{}
