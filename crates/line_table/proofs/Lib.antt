@@ -1,0 +1,5 @@
+pub mod Searches
+pub mod Starts
+pub mod Opens
+pub mod Kept
+pub mod Prepared
