@@ -1,0 +1,3 @@
+pub mod AllJobs
+pub mod Entries
+pub mod Rising

@@ -1,0 +1,19 @@
+-- The job's entry is there and goes, and its number was no ready one.
+use Rattle.std.proofs.Common.{sym, ap}
+use Rattle.job_table.specs.LiveJobs.{Held}
+use Rattle.job_table.proofs.Entries.{entry_stands, entry_is, held_without, keeps_without}
+use Rattle.job_table.proofs.jobs.Jobs.done.Goals as goal
+
+pub unreachable-requires : goal.unreachable-requires
+unreachable-requires c = entry_stands c.args.job c.self.inside.live.entries c.requires.job (rw (← c.self.view_is) at c.requires.stands) c.in-None.ensures.value
+
+pub invariant_of-self : goal.invariant_of-self
+invariant_of-self c = keeps_without c.args.job c.self.inside.live.entries _ c.self.inside.ready.keys c.self.inside.count c.self.invariant (rw (← c.self.view_is) at c.requires) c.remove.ensures.entries
+
+pub returns-clause-owner : goal.returns-clause-owner
+returns-clause-owner c = λ h stands.
+    let is = entry_is c.args.job c.self.inside.live.entries h c.in-Some.live (rw (← c.self.view_is) at stands) c.in-Some.ensures.value in
+    sym (ap (λ (t : Held). t.owner) is)
+
+pub returns-clause-held : goal.returns-clause-held
+returns-clause-held c = rw (← c.self.view_is) (held_without c.args.job c.self.inside.live.entries _ c.self.inside.ready.keys c.self.inside.count c.self.invariant c.remove.ensures.entries)
