@@ -1,0 +1,4 @@
+pub mod Faults
+pub mod Hears
+pub mod Puts
+pub mod Stops
