@@ -1,0 +1,10 @@
+pub mod Changes
+pub mod Questions
+pub mod Owing
+pub mod Steps
+pub mod Advance
+pub mod Events
+pub mod Dues
+pub mod Kept
+pub mod Turns
+pub mod Hearing

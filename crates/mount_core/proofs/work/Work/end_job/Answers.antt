@@ -1,0 +1,18 @@
+use Rattle.std.proofs.Common.{arith}
+use Rattle.mount_core.proofs.Owing.{owes_jobs-without}
+use Rattle.mount_core.proofs.work.Work.end_job.Goals as goal
+
+pub event-requires : goal.event-requires
+event-requires c = omega (arith, owes_jobs-without c.args.job c.args.self.now.jobs.held c.requires)
+
+pub overflow_sub-self : goal.overflow_sub-self
+overflow_sub-self c = omega (arith, owes_jobs-without c.args.job c.args.self.now.jobs.held c.requires)
+
+pub invariant_of-self : goal.invariant_of-self
+invariant_of-self c =
+    let owes = owes_jobs-without c.args.job c.args.self.now.jobs.held c.requires in
+    record {
+      counted = rw c.done-owner.ensures.held (omega arith);
+      enough = omega arith;
+      rising = c.args.self.now.rising;
+    }

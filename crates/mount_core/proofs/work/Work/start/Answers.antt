@@ -1,0 +1,11 @@
+use Rattle.std.proofs.Common.{arith}
+use Rattle.run_laws.proofs.Lines.{lines-opening}
+use Rattle.mount_core.proofs.Owing.{owes_lines-start}
+use Rattle.mount_core.proofs.work.Work.start.Goals as goal
+
+pub invariant_of-result : goal.invariant_of-result
+invariant_of-result c = record {
+  counted = rw (c.in_ok-lines.ensures, c.new-2.ensures.held, owes_lines-start) (omega (arith, c.in-Some.ensures, c.len.ensures));
+  enough = omega (arith, c.in_ok-make_room.ensures.room);
+  rising = rw (c.in_ok-lines.ensures, lines-opening) c.requires;
+}

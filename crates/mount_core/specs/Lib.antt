@@ -1,0 +1,5 @@
+pub mod Core
+pub mod Due
+pub mod Rising
+pub mod Room
+pub mod Turn

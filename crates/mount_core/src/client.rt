@@ -1,0 +1,126 @@
+ghost use Rattle.std.specs.Prelude.{◌≡◌, ◌<◌, List, [], ◌↔◌, true, max, IfOk, IsTrue, Some, slice_get};
+ghost use Rattle.std.specs.List.{AllByRecursion};
+ghost use Rattle.bucket_model.specs.Answers.{brief_of};
+ghost use Rattle.mount_model.specs.declared.event.Event.TheVariants.{Begin, Take, Done};
+ghost use Rattle.mount_model.specs.declared.event.Owner.TheVariants.{Line};
+ghost use Rattle.mount_model.specs.State.{Job, job_at};
+ghost use Rattle.mount_model.specs.Run.{AreRising, IsRunSoFar, IsQuiet, MayDone, is_among, ready, startable};
+
+use crate::work::Work;
+use bucket_model::{Answer, Call};
+use mount_model::{Owner, Record, Script};
+use std::alloc::{AllocError, Global};
+use std::marker::Model;
+
+/// The mount on one thread. Each event is one step of its record.
+#[derive(Drop)]
+pub struct Core {
+    work: Work,
+}
+
+impl Model for Core {
+    ghost use Rattle.mount_core.specs.Core.{CoreState, IsCore, core_of};
+
+    ghost Value = { CoreState };
+
+    ghost view = { λ c. core_of c.work };
+
+    ghost invariant = { λ c. IsCore c.work (core_of c.work) };
+}
+
+// The line that a job belongs to.
+fn owning_line(owner: Owner) -> u32
+    ensures { owner ≡ Line result }
+{
+    match owner {
+        Owner::Line(line) => line,
+    }
+}
+
+impl Core {
+    ghost use Rattle.mount_core.specs.Core.{Advances, state_of};
+
+    /// A mount that has done nothing, for a script whose line numbers rise.
+    pub fn new(alloc: Global, script: Script) -> Result<Self, AllocError>
+        requires { AreRising 0 script }
+        ensures script { IfOk result (λ core. core.script ≡ script) }
+        ensures steps { IfOk result (λ core. core.steps ≡ []) }
+    {
+        Ok(Core {
+            work: Work::start(alloc, script)?,
+        })
+    }
+
+    /// Whether the line waits and each line of its actor above it has its reply.
+    pub fn startable(&self, line: u32) -> bool
+        ensures { result ≡ is_among line (startable (state_of self.now).lines) }
+    {
+        self.work.lines.startable(line)
+    }
+
+    /// The line at place `i`, from 0, of those that may begin, in order.
+    pub fn startable_at(&self, i: usize) -> Option<u32>
+        ensures value { result ≡ slice_get (startable (state_of self.now).lines) i }
+        ensures rising { AreRising 0 self.now.script }
+        ensures run { IsRunSoFar self.now.script self.now.steps }
+    {
+        self.work.lines.startable_at(i)
+    }
+
+    /// The job at place `i`, from 0, of those that may be taken, in order.
+    pub fn ready(&self, i: usize) -> Option<u64>
+        ensures { result ≡ slice_get (ready (state_of self.now).jobs) i }
+    {
+        self.work.jobs.ready(i)
+    }
+
+    /// A line begins. Times that fall are read as the greatest so far.
+    pub fn begin(&mut self, line: u32, time: u64)
+        requires { is_among line (startable (state_of self.old).lines) ≡ true }
+        ensures { Advances (Begin line (max (state_of self.old).time time)) self.old self.new }
+    {
+        self.work.begin_line(line, time);
+        let due = self.work.due(line, None);
+        self.work.go_on(line, due, None);
+        self.work.answer_awaits();
+    }
+
+    /// A ready job is taken: its call is to be made now, behind the history's first `from` entries. Takes no memory.
+    pub fn take(&mut self, job: u64, time: u64, from: u64) -> Call
+        requires ready { is_among job (ready (state_of self.old).jobs) ≡ true }
+        requires behind { AllByRecursion (λ position. position < from) (state_of self.old).positions }
+        ensures call { (j : Job) → job_at job (state_of self.old).jobs ≡ Some j → result ≡ j.call }
+        ensures step { Advances (Take job (max (state_of self.old).time time) from) self.old self.new }
+    {
+        self.work.take_job(job, time, from)
+    }
+
+    /// The answer of a job that is out has come; its entry stands at this position.
+    pub fn done(&mut self, job: u64, position: u64, answer: Answer)
+        requires { MayDone (state_of self.old) job position (brief_of answer) }
+        ensures { Advances (Done job position (brief_of answer)) self.old self.new }
+    {
+        let brief = answer.brief();
+        let owner = self.work.end_job(job, position, answer.brief());
+        let line = owning_line(owner);
+        let due = self.work.due(line, Some(&brief));
+        self.work.go_on(line, due, Some(brief));
+        self.work.answer_awaits();
+    }
+
+    /// Whether each line has its reply and no job is ready or out.
+    pub fn quiet(&self) -> bool
+        ensures { IsTrue result ↔ IsQuiet (state_of self.now) }
+    {
+        self.work.lines.all_replied() && self.work.jobs.is_empty()
+    }
+
+    /// What has happened so far.
+    pub fn record(&self) -> &Record
+        ensures steps { result.now.steps ≡ self.now.steps }
+        ensures rising { AreRising 0 self.now.script }
+        ensures run { IsRunSoFar self.now.script self.now.steps }
+    {
+        &self.work.record
+    }
+}

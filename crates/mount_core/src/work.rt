@@ -1,0 +1,147 @@
+ghost use Rattle.std.specs.Prelude.{◌≡◌, ◌≢◌, ◌+◌, ◌<◌, ◌≤◌, List, [], ◌∷◌, ◌++◌, map, max, true, Option, Some, None, IfOk, option_copied};
+ghost use Rattle.mount_model.specs.declared.event.Event.TheVariants.{Begin, Take, Done};
+ghost use Rattle.mount_model.specs.declared.standing.Phase.TheVariants.{Begun};
+ghost use Rattle.mount_model.specs.Step.{step_of, HasStep};
+ghost use Rattle.mount_model.specs.State.{opening, change_line};
+ghost use Rattle.mount_model.specs.Conversation.{Next};
+ghost use Rattle.mount_model.specs.Run.{AreRising, startable, is_among, next_at};
+ghost use Rattle.line_table.specs.Table.{HasBegun};
+ghost use Rattle.job_table.specs.LiveJobs.{Held, held_at, with_taken, without, IsReadyIn, IsOutIn};
+ghost use Rattle.mount_core.specs.Due.{DueMeans};
+ghost use Rattle.mount_core.specs.Rising.{AreRising-prop};
+ghost use Rattle.mount_core.specs.Room.{owes_lines, owes_jobs};
+
+use crate::due::{Due, due_of};
+use bucket_model::{Brief, Call};
+use job_table::Jobs;
+use line_table::Lines;
+use mount_model::{Answered, Event, Owner, Phase, Record, Reply, Script};
+use std::alloc::{AllocError, Global};
+
+/// The parts of the mount. The record has room for all that lines and jobs still owe it, so that what has
+/// happened can always be told.
+#[derive(Drop)]
+pub struct Work {
+    pub lines: Lines,
+    pub jobs: Jobs,
+    pub record: Record,
+    pub time: u64,
+    /// How many items lines and jobs still owe the record.
+    pub owed: usize,
+    pub alloc: Global,
+    ghost counted: { owes_lines lines + owes_jobs jobs.held ≤ owed },
+    ghost enough: { owed ≤ record.room },
+    ghost rising: { AreRising 0 (map (λ s. s.line) lines) } by { AreRising-prop 0 (map (λ s. s.line) lines) },
+}
+
+impl Work {
+    ghost use Rattle.mount_core.specs.Turn.{Answers, heard_last};
+
+    /// Nothing has begun. Room for the begin and the reply of each line is made here.
+    pub fn start(alloc: Global, script: Script) -> Result<Self, AllocError>
+        requires { AreRising 0 script }
+        ensures lines { IfOk result (λ work. work.lines ≡ (opening script).lines) }
+        ensures jobs { IfOk result (λ work. (work.jobs.count ≡ 0) × (work.jobs.held ≡ [])) }
+        ensures steps { IfOk result (λ work. work.record.steps ≡ []) }
+        ensures time { IfOk result (λ work. work.time ≡ 0) }
+    {
+        let Some(owed) = script.len().checked_mul(2) else {
+            return Err(AllocError);
+        };
+        let lines = Lines::new(alloc, script)?;
+        let mut record = Record::new(alloc);
+        record.make_room(owed)?;
+        Ok(Work {
+            lines,
+            jobs: Jobs::new(alloc),
+            record,
+            time: 0,
+            owed,
+            alloc,
+        })
+    }
+
+    /// The step of a line's begin begins.
+    pub fn begin_line(&mut self, line: u32, time: u64)
+        requires { is_among line (startable self.old.lines) ≡ true }
+        ensures time { self.new.time ≡ max self.old.time time }
+        ensures steps { self.new.record.steps ≡ self.old.record.steps ++ step_of (Begin line (max self.old.time time)) ∷ [] }
+        ensures lines { self.new.lines ≡ change_line line (λ phase. Begun []) self.old.lines }
+        ensures jobs { self.new.jobs ≡ self.old.jobs }
+    {
+        let time = self.time.max(time);
+        self.time = time;
+        self.record.event(Event::Begin { line, time });
+        self.lines.begin(self.alloc, line);
+        self.owed -= 1;
+    }
+
+    /// The step of a job's take: its call is handed out.
+    pub fn take_job(&mut self, job: u64, time: u64, from: u64) -> Call
+        requires { IsReadyIn job self.old.jobs.held }
+        ensures call { (h : Held) → held_at job self.old.jobs.held ≡ Some h → h.call ≡ Some result }
+        ensures time { self.new.time ≡ max self.old.time time }
+        ensures steps { self.new.record.steps ≡ self.old.record.steps ++ step_of (Take job (max self.old.time time) from) ∷ [] }
+        ensures lines { self.new.lines ≡ self.old.lines }
+        ensures count { self.new.jobs.count ≡ self.old.jobs.count }
+        ensures held { self.new.jobs.held ≡ with_taken job self.old.jobs.held }
+    {
+        let time = self.time.max(time);
+        self.time = time;
+        self.record.event(Event::Take { job, time, from });
+        let call = self.jobs.take(job);
+        self.owed -= 1;
+        call
+    }
+
+    /// The step of a job's end begins.
+    pub fn end_job(&mut self, job: u64, position: u64, answer: Brief) -> Owner
+        requires { IsOutIn job self.old.jobs.held }
+        ensures owner { (h : Held) → held_at job self.old.jobs.held ≡ Some h → result ≡ h.owner }
+        ensures time { self.new.time ≡ self.old.time }
+        ensures steps { self.new.record.steps ≡ self.old.record.steps ++ step_of (Done job position answer) ∷ [] }
+        ensures lines { self.new.lines ≡ self.old.lines }
+        ensures count { self.new.jobs.count ≡ self.old.jobs.count }
+        ensures held { self.new.jobs.held ≡ without job self.old.jobs.held }
+    {
+        self.record.event(Event::Done {
+            job,
+            position,
+            answer,
+        });
+        let owner = self.jobs.done(job);
+        self.owed -= 1;
+        owner
+    }
+
+    /// A line gets its reply in the last step.
+    pub fn reply_line(&mut self, line: u32, reply: Reply)
+        requires begun { HasBegun line self.old.lines }
+        requires step { HasStep self.old.record.steps }
+        ensures { Answers (record { line = line; reply = reply } ∷ []) self.old self.new }
+    {
+        self.record.reply(Answered { line, reply });
+        self.lines.reply(line);
+        self.owed -= 1;
+    }
+
+    /// What is due of a line that has begun, behind the answers so far and this last one.
+    pub fn due(&self, line: u32, last: Option<&Brief>) -> Due
+        requires { HasBegun line self.now.lines }
+        ensures { DueMeans result (next_at line (change_line line (heard_last (option_copied last.entry)) self.now.lines)) }
+    {
+        let Some(standing) = self.lines.standing(line) else {
+            unreachable!()
+        };
+        match &standing.phase {
+            Phase::Begun(answers) => due_of(
+                self.alloc,
+                &standing.line.request,
+                answers.as_slice(),
+                last,
+            ),
+            Phase::Waiting => unreachable!(),
+            Phase::Replied => unreachable!(),
+        }
+    }
+}
