@@ -1,0 +1,4 @@
+pub mod Positions
+pub mod Ties
+pub mod Jobs
+pub mod Serving

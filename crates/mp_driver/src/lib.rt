@@ -1,0 +1,7 @@
+//! Drives a core on one thread until it is quiet: it makes the core's bucket calls and reads the clock.
+//! It knows nothing of requests, paths or texts.
+#![tactic(auto)]
+
+mod driving;
+
+pub use driving::drive;
