@@ -1,0 +1,13 @@
+-- The exit statuses of the program.
+use Rattle.std.specs.Prelude.{ℕ}
+use Rattle.mount_one.specs.declared.status.Status.{Status}
+use Rattle.mount_one.specs.declared.status.Status.TheVariants.{Done, BadScript, TooLong, Usage, SourceFault, SinkFault, NoMemory}
+
+abbrev pub code_of : Status → ℕ
+code_of Done = 0
+code_of (BadScript line cause) = 1
+code_of (TooLong what) = 1
+code_of Usage = 2
+code_of SourceFault = 3
+code_of SinkFault = 4
+code_of NoMemory = 5

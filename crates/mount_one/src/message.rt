@@ -1,0 +1,40 @@
+use crate::status::Status;
+use mount_model::{ScriptCause, What};
+use std::io;
+
+fn cause_text(cause: ScriptCause) -> &'static str {
+    match cause {
+        ScriptCause::Actor => "actor",
+        ScriptCause::Verb => "verb",
+        ScriptCause::Words => "words",
+        ScriptCause::Escape => "escape",
+        ScriptCause::Key => "key",
+        ScriptCause::Data => "data",
+        ScriptCause::Path => "path",
+    }
+}
+
+fn what_text(what: What) -> &'static str {
+    match what {
+        What::Bytes => "bytes",
+    }
+}
+
+/// Writes the status's line to standard error. A run that is done has none.
+pub fn tell<R: Eprint>(rt: &R, status: Status) -> io::Result<()> {
+    match status {
+        Status::Done => Ok(()),
+        Status::BadScript { line, cause } => {
+            let cause = cause_text(cause);
+            eprintln!(rt; "mount: line {line}: {cause}")
+        }
+        Status::TooLong(what) => {
+            let what = what_text(what);
+            eprintln!(rt; "mount: too long: {what}")
+        }
+        Status::Usage => eprintln!(rt; "mount: usage"),
+        Status::SourceFault => eprintln!(rt; "mount: read failed"),
+        Status::SinkFault => eprintln!(rt; "mount: write failed"),
+        Status::NoMemory => eprintln!(rt; "mount: no memory"),
+    }
+}

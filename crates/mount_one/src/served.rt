@@ -1,0 +1,117 @@
+ghost use Rattle.std.specs.Prelude.{◌≡◌, ℕ, ◌≤◌, List, Option, ◌↔◌, ◌⊎◌, IsTrue, IfOk, IfErr};
+ghost use Rattle.mp_types.specs.Count.{HasRisen};
+ghost use Rattle.mount_model.specs.declared.fault.ScriptCause.{ScriptCause};
+ghost use Rattle.mount_model.specs.declared.fault.What.TheVariants.{Bytes};
+ghost use Rattle.mount_one.specs.Headline.{AreWords, Spells, SpellsNone, IsTooLong, WritesRecord, WritesFront, IsRefusal, Refuses, Ends};
+ghost use Rattle.mount_model.specs.Run.{AreRising};
+ghost use Rattle.mount_one.specs.Reading.{IsSpent};
+
+use crate::reading::{ReadFault, read_all};
+use crate::status::Status;
+use mount_core::Core;
+use mount_model::{Script, What};
+use mp_driver::drive;
+use mp_io::{Clock, Sink, Source};
+use mp_record::{PrintFault, print_record};
+use mp_script::{ScriptError, read_script};
+use mp_types::Text;
+use std::alloc::Global;
+use store_trait::Store;
+
+// A script has at most this many bytes.
+const MAX_BYTES: usize = 67_108_864;
+
+fn are_words(words: &[Text]) -> bool
+    ensures { IsTrue result ↔ AreWords words.now }
+{
+    match words {
+        [word] => word.as_str() == "run",
+        _ => false,
+    }
+}
+
+// The script, or the status that says why there is none.
+fn script_from<S: Source>(alloc: Global, source: &mut S) -> Result<Script, Status>
+    ensures spelled { IfOk result (λ script. Spells (S.left source.old) script × IsSpent (S.left source.new)) }
+    ensures rising { IfOk result (AreRising 0) }
+    ensures refused { IfErr result (λ status. Refuses (S.left source.old) status (S.left source.new) (HasRisen (S.faults source.old) (S.faults source.new))) }
+{
+    let bytes = match read_all(alloc, source, MAX_BYTES) {
+        Ok(bytes) => bytes,
+        Err(ReadFault::Source) => return Err(Status::SourceFault),
+        Err(ReadFault::TooLong) => return Err(Status::TooLong(What::Bytes)),
+        Err(ReadFault::Memory) => return Err(Status::NoMemory),
+    };
+    match read_script(alloc, bytes.as_slice()) {
+        Ok(script) => Ok(script),
+        Err(ScriptError::Bad { line, cause }) => Err(Status::BadScript { line, cause }),
+        Err(ScriptError::TooLong(what)) => Err(Status::TooLong(what)),
+        Err(ScriptError::Memory) => Err(Status::NoMemory),
+    }
+}
+
+// Serves a script and writes its record.
+fn serve<K: Sink, T: Store, C: Clock>(
+    alloc: Global,
+    script: Script,
+    sink: &mut K,
+    store: &mut T,
+    clock: &mut C,
+) -> Status
+    requires { AreRising 0 script }
+    ensures ends { (input : Option (List ℕ)) → Spells input script → Ends result
+        (WritesRecord input (T.position store.old) (T.is_alone store.old) (T.history store.new) (K.held sink.old) (K.held sink.new))
+        (WritesFront input (T.position store.old) (T.is_alone store.old) (T.history store.new) (K.held sink.old) (K.held sink.new))
+        (HasRisen (K.faults sink.old) (K.faults sink.new))
+        ((sink.new ≡ sink.old) × (store.new ≡ store.old)) }
+    ensures honest { T.is_honest store.old → T.is_honest store.new }
+{
+    let core = match Core::new(alloc, script) {
+        Ok(core) => drive(core, store, clock),
+        Err(_) => return Status::NoMemory,
+    };
+    match print_record(alloc, core.record(), sink) {
+        Ok(()) => Status::Done,
+        Err(PrintFault::Sink) => Status::SinkFault,
+        Err(PrintFault::Memory) => Status::NoMemory,
+    }
+}
+
+/// Reads a script from the source, serves it over the store on one thread, and writes the record to the sink.
+/// It always returns.
+pub fn run<S: Source, K: Sink, T: Store, C: Clock>(
+    alloc: Global,
+    words: &[Text],
+    source: &mut S,
+    sink: &mut K,
+    store: &mut T,
+    clock: &mut C,
+) -> Status
+    // The script was read to its end, and what was written is the text of the record of a run of it.
+    ensures done { result ≡ Status.Done → IsSpent (S.left source.new)
+        × WritesRecord (S.left source.old) (T.position store.old) (T.is_alone store.old) (T.history store.new) (K.held sink.old) (K.held sink.new) }
+
+    // Each refusal comes for its cause alone, and then nothing is written and no bucket call is made.
+    ensures usage { (result ≡ Status.Usage) ↔ (AreWords words.now → ⊥) }
+    ensures bad_script { (line : ℕ) (cause : ScriptCause) → result ≡ Status.BadScript line cause → SpellsNone (S.left source.old) line cause × IsSpent (S.left source.new) }
+    ensures too_long { result ≡ Status.TooLong Bytes → IsTooLong (S.left source.old) }
+    ensures source_fault { result ≡ Status.SourceFault → HasRisen (S.faults source.old) (S.faults source.new) }
+    ensures refused { IsRefusal result → (sink.new ≡ sink.old) × (store.new ≡ store.old) × (clock.new ≡ clock.old) }
+
+    // What was written before a failure is a front of such a text.
+    ensures sink_fault { result ≡ Status.SinkFault → HasRisen (K.faults sink.old) (K.faults sink.new)
+        × WritesFront (S.left source.old) (T.position store.old) (T.is_alone store.old) (T.history store.new) (K.held sink.old) (K.held sink.new) }
+    ensures no_memory { result ≡ Status.NoMemory → ((sink.new ≡ sink.old) × (store.new ≡ store.old))
+        ⊎ WritesFront (S.left source.old) (T.position store.old) (T.is_alone store.old) (T.history store.new) (K.held sink.old) (K.held sink.new) }
+
+    // An honest store stays honest: its history at exit is legal.
+    ensures honest { T.is_honest store.old → T.is_honest store.new }
+{
+    if !are_words(words) {
+        return Status::Usage;
+    }
+    match script_from(alloc, source) {
+        Ok(script) => serve(alloc, script, sink, store, clock),
+        Err(status) => status,
+    }
+}
