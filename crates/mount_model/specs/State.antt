@@ -128,7 +128,8 @@ after state step = record {
   time = time_after state.time step.event;
   lines = with_replies (lines_at state.lines state.jobs step.event) step.replies;
   jobs = jobs_at state.jobs step.event ++ map (job_of state.lines) step.asks;
-  positions = positions_after state.positions step.event }
+  positions = positions_after state.positions step.event;
+}
 
 -- the state after these steps of a run of the script
 abbrev pub state_after : List Line → List Step → ClientState
