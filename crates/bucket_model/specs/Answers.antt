@@ -1,5 +1,5 @@
 -- Answers in brief, and which of them a call may get.
-use Rattle.std.specs.Prelude.{ℕ, List, Bool, true, false}
+use Rattle.std.specs.Prelude.{Bool, true, false}
 use Rattle.bucket_model.specs.declared.call.Call.{Call}
 use Rattle.bucket_model.specs.declared.call.Call.TheVariants.{Head, Probe, Put}
 use Rattle.bucket_model.specs.declared.answer.Answer.{Answer}

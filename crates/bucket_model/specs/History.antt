@@ -1,5 +1,5 @@
 -- A bucket's history, and what makes it legal.
-use Rattle.std.specs.Prelude.{◌≡◌, ◌≢◌, ℕ, List, [], ◌∷◌, ◌++◌, fold, Contains, Bool, true, false, Option, Some, None, option_to_list}
+use Rattle.std.specs.Prelude.{◌≡◌, ◌≢◌, List, [], ◌∷◌, ◌++◌, fold, Contains, Bool, true, false, Option, Some, None, option_to_list}
 use Rattle.bucket_model.specs.declared.call.Call.{Call}
 use Rattle.bucket_model.specs.declared.call.Call.TheVariants.{Head, Probe, Put}
 use Rattle.bucket_model.specs.declared.answer.Brief.{Brief}
