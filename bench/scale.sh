@@ -1,0 +1,128 @@
+#!/usr/bin/env bash
+# Measures how time and memory grow with a script's length. Needs bash and python3 alone.
+#   bench/scale.sh            builds the program and measures it
+#   bench/scale.sh PROGRAM    measures this program
+# Prints a table for bench/RESULTS.md on standard output. Scripts and records stand in a folder that goes away at the end.
+set -eu
+top=$(cd "$(dirname "${BASH_SOURCE[0]}")/.." && pwd)
+program=${1:-}
+if [ -z "$program" ]; then
+    "$top/mount" run </dev/null >/dev/null
+    # The built program itself, so that the search for changed sources isn't measured.
+    program="$top/crates/mount_one/out/mount_one"
+fi
+folder=$(mktemp -d)
+trap 'rm -rf "$folder"' EXIT
+python3 - "$program" "$folder" <<'PYTHON'
+import os
+import resource
+import shutil
+import subprocess
+import sys
+import time
+
+program, folder = sys.argv[1:]
+RUNS = 5
+REQUESTS_OF_HALF = 30_000
+COMMENT = "#" + "c" * 8_190
+
+
+def requests(lines, puts):
+    """Puts of small objects by the others, an await, and stats of the first of them by process 1."""
+    for n in range(puts):
+        yield f"0 put k{n:05d} tx"
+    yield "1 await"
+    for n in range(lines - puts - 1):
+        yield f"1 stat /k{n:05d}"
+
+
+def with_comments(lines, puts):
+    """Every second line is a long comment."""
+    for request in requests(lines // 2, puts):
+        yield COMMENT
+        yield request
+
+
+def write_script(name, lines):
+    path = os.path.join(folder, name + ".script")
+    with open(path, "w") as file:
+        file.writelines(line + "\n" for line in lines)
+    return path
+
+
+def run(command, script, record):
+    """One run: its seconds on the wall. Anything but status 0 ends the benchmark."""
+    with open(script, "rb") as source, open(record, "wb") as sink:
+        start = time.perf_counter()
+        status = subprocess.run(command, stdin=source, stdout=sink).returncode
+        seconds = time.perf_counter() - start
+    if status != 0:
+        sys.exit(f"scale: {os.path.basename(script)} ended with status {status}")
+    return seconds
+
+
+def check_record(record, count, last):
+    """Each request has its reply, and the last one is right."""
+    with open(record) as file:
+        replies = [line.rstrip("\n") for line in file if line.startswith("R ")]
+    if len(replies) != count:
+        sys.exit(f"scale: {len(replies)} replies to {count} requests")
+    if replies[-1] != last:
+        sys.exit(f"scale: the last reply is {replies[-1]!r} and not {last!r}")
+
+
+def peak_kib(script, record):
+    """The most memory of one run of its own, in KiB, and whether that is exact."""
+    timer = "/usr/bin/time"
+    if os.access(timer, os.X_OK):
+        report = os.path.join(folder, "time.txt")
+        run([timer, "-v", "-o", report, program, "run"], script, record)
+        with open(report) as file:
+            for line in file:
+                if "Maximum resident set size" in line:
+                    return int(line.split()[-1]), True
+    run([program, "run"], script, record)
+    # The most of all children so far, and not less than Python's own, since they begin as its copies.
+    return resource.getrusage(resource.RUSAGE_CHILDREN).ru_maxrss, False
+
+
+def measure(name, lines, count, last):
+    script = write_script(name, lines)
+    record = os.path.join(folder, name + ".record")
+    best = min(run([program, "run"], script, record) for _ in range(RUNS))
+    check_record(record, count, last)
+    sizes = os.path.getsize(script), os.path.getsize(record)
+    peak, is_exact = peak_kib(script, record)
+    os.remove(script)
+    os.remove(record)
+    return sizes, best, peak, is_exact
+
+
+def mib(size):
+    return f"{size / 1_048_576:.1f}"
+
+
+half, full, puts = 32_768, 65_536, REQUESTS_OF_HALF
+commented = 8_192
+cases = [
+    ("32,768 lines", requests(half, puts), half, f"R {half} file 1"),
+    ("65,536 lines", requests(full, 2 * puts), full, f"R {full} file 1"),
+    ("8,192 lines, half of them comments of 8,191 bytes", with_comments(commented, 3_000), commented // 2, f"R {commented} file 1"),
+]
+
+print(f"Best of {RUNS} runs, seconds on the wall. The ratio is to the line above.")
+print()
+print("| script | script, MiB | record, MiB | seconds | ratio | peak memory, MiB |")
+print("|---|---|---|---|---|---|")
+before = None
+all_exact = True
+for place, (name, lines, count, last) in enumerate(cases):
+    (script_size, record_size), best, peak, is_exact = measure(f"case{place}", lines, count, last)
+    all_exact = all_exact and is_exact
+    ratio = f"{best / before:.2f}" if place == 1 else ""
+    print(f"| {name} | {mib(script_size)} | {mib(record_size)} | {best:.3f} | {ratio} | {peak / 1024:.1f} |", flush=True)
+    before = best
+if not all_exact:
+    print()
+    print("Peak memory is the most of all runs so far, and not less than Python's own.")
+PYTHON
