@@ -1,5 +1,6 @@
 pub mod Conversation
 pub mod RecordText
+pub mod Replies
 pub mod Run
 pub mod ScriptText
 pub mod State

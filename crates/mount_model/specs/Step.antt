@@ -39,8 +39,9 @@ with_item steps (item.Reply reply) = change_last (with_reply reply) steps
 abbrev pub steps_of : List Item → List Step
 steps_of items = fold with_item [] items
 
--- steps, and room for this many items more
+-- items, the steps that they stand for, and room for this many items more
 pub record Written : Type 0 where
+  pub items : List Item
   pub steps : List Step
   pub room : ℕ
 

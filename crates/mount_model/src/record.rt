@@ -1,4 +1,5 @@
 ghost use Rattle.std.specs.Prelude.{◌≡◌, ◌+◌, ◌<◌, ◌≤◌, List, [], ◌∷◌, ◌++◌, true, OnOk, OnErr};
+ghost use Rattle.mount_model.specs.declared.record.Item.TheVariants as item;
 ghost use Rattle.mount_model.specs.Step.{step_of, steps_of, with_ask, with_reply, change_last, MayAsk, HasStep, IsInOrder};
 
 use crate::{Answered, Ask, Event};
@@ -28,7 +29,7 @@ impl Model for Record {
 
     ghost Value = { Written };
 
-    ghost view = { λ a. record { steps = steps_of a.items.items; room = vec_capacity a.items - vec_len a.items } };
+    ghost view = { λ a. record { items = a.items.items; steps = steps_of a.items.items; room = vec_capacity a.items - vec_len a.items } };
 
     ghost invariant = { λ a. IsInOrder a.items.items };
 }
@@ -36,7 +37,8 @@ impl Model for Record {
 impl Record {
     /// A record of nothing. Takes no memory.
     pub fn new(alloc: Global) -> Self
-        ensures { result.steps ≡ [] }
+        ensures steps { result.steps ≡ [] }
+        ensures items { result.items ≡ [] }
     {
         Record {
             items: Vec::new(alloc),
@@ -46,6 +48,7 @@ impl Record {
     /// Makes room for this many items more. Only this can find no memory.
     pub fn make_room(&mut self, items: usize) -> Result<(), AllocError>
         ensures steps { self.new.steps ≡ self.old.steps }
+        ensures items { self.new.items ≡ self.old.items }
         ensures room { OnOk result (items ≤ self.new.room) }
         ensures kept { self.old.room ≤ self.new.room }
     {
@@ -56,6 +59,7 @@ impl Record {
     pub fn event(&mut self, event: Event)
         requires { 0 < self.old.room }
         ensures steps { self.new.steps ≡ self.old.steps ++ step_of event ∷ [] }
+        ensures items { self.new.items ≡ self.old.items ++ item.Event event ∷ [] }
         ensures room { self.new.room + 1 ≡ self.old.room }
     {
         self.items.push_reserved(Item::Event(event));
@@ -66,6 +70,7 @@ impl Record {
         requires room { 0 < self.old.room }
         requires may { MayAsk self.old.steps }
         ensures steps { self.new.steps ≡ change_last (with_ask ask) self.old.steps }
+        ensures items { self.new.items ≡ self.old.items ++ item.Ask ask ∷ [] }
         ensures room { self.new.room + 1 ≡ self.old.room }
     {
         self.items.push_reserved(Item::Ask(ask));
@@ -76,6 +81,7 @@ impl Record {
         requires room { 0 < self.old.room }
         requires may { HasStep self.old.steps }
         ensures steps { self.new.steps ≡ change_last (with_reply reply) self.old.steps }
+        ensures items { self.new.items ≡ self.old.items ++ item.Reply reply ∷ [] }
         ensures room { self.new.room + 1 ≡ self.old.room }
     {
         self.items.push_reserved(Item::Reply(reply));
@@ -83,6 +89,7 @@ impl Record {
 
     /// The items in the order in which they are written.
     pub fn items(&self) -> &[Item]
+        ensures items { result.now ≡ self.now.items }
         ensures steps { steps_of result.now ≡ self.now.steps }
         ensures order { IsInOrder result.now }
     {
