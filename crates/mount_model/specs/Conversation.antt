@@ -2,7 +2,6 @@
 use Rattle.std.specs.Prelude.{ℕ, List, [], ◌∷◌, ◌++◌, Result, Ok, Err}
 use Rattle.mp_types.specs.declared.errno.Errno.{Errno}
 use Rattle.mp_types.specs.declared.errno.Errno.TheVariants.{Eio, Enomem, Enoent, Enotdir, Einval, Enametoolong}
-use Rattle.mp_types.specs.declared.octets.Data.{Data}
 use Rattle.mp_types.specs.declared.path.PathFault.{PathFault}
 use Rattle.mp_types.specs.declared.path.PathFault.TheVariants as fault
 use Rattle.mp_types.specs.Content.{bytes_of}
@@ -10,7 +9,7 @@ use Rattle.mp_types.specs.Path.{path_of, slash}
 use Rattle.bucket_model.specs.declared.call.Call.{Call}
 use Rattle.bucket_model.specs.declared.call.Call.TheVariants as call
 use Rattle.bucket_model.specs.declared.answer.Brief.{Brief}
-use Rattle.bucket_model.specs.declared.answer.Brief.TheVariants.{Found, Missing, Yes, No, Made, Fault, NoMemory}
+use Rattle.bucket_model.specs.declared.answer.Brief.TheVariants.{Found, Missing, Yes, No, Made, NoMemory}
 use Rattle.mount_model.specs.declared.request.Request.{Request}
 use Rattle.mount_model.specs.declared.request.Request.TheVariants.{Put, Await, Stat}
 use Rattle.mount_model.specs.declared.request.Reply.{Reply}

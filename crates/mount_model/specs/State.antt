@@ -1,5 +1,5 @@
 -- The state of the mount after some steps.
-use Rattle.std.specs.Prelude.{◌≡◌, ℕ, ◌+◌, ◌-◌, List, [], ◌∷◌, ◌++◌, map, find, fold, length, Bool, true, false, ◌==◌, if◌then◌else◌, Option, Some, None, option_map}
+use Rattle.std.specs.Prelude.{ℕ, List, [], ◌∷◌, ◌++◌, map, find, fold, ◌==◌, if◌then◌else◌, Option, Some, None}
 use Rattle.mp_types.specs.Content.{bytes_of}
 use Rattle.bucket_model.specs.declared.call.Call.{Call}
 use Rattle.bucket_model.specs.declared.call.Call.TheVariants as call

@@ -1,4 +1,3 @@
-use Rattle.std.proofs.Common.{sym, subst}
 use Rattle.bucket_model.proofs.Along.{Along-push}
 use Rattle.mount_model.specs.Step.{MayFollow, with_item}
 use Rattle.mount_model.proofs.record.Record.event.Goals as goal
