@@ -1,14 +1,15 @@
-ghost use Rattle.std.specs.Prelude.{◌≡◌, ◌<◌, List, [], ◌↔◌, true, max, IfOk, IsTrue, Some, slice_get};
+ghost use Rattle.std.specs.Prelude.{◌≡◌, ◌<◌, List, [], ◌↔◌, true, max, IfOk, IsTrue, Some, slice_get, option_copied};
 ghost use Rattle.std.specs.List.{AllByRecursion};
 ghost use Rattle.bucket_model.specs.Answers.{brief_of};
 ghost use Rattle.mount_model.specs.declared.event.Event.TheVariants.{Begin, Take, Done};
 ghost use Rattle.mount_model.specs.declared.event.Owner.TheVariants.{Line};
 ghost use Rattle.mount_model.specs.State.{Job, job_at};
+ghost use Rattle.mount_model.specs.Replies.{reply_to};
 ghost use Rattle.mount_model.specs.Run.{AreRising, IsRunSoFar, IsQuiet, MayDone, is_among, ready, startable};
 
 use crate::work::Work;
 use bucket_model::{Answer, Call};
-use mount_model::{Owner, Record, Script};
+use mount_model::{Owner, Record, Reply, Script};
 use std::alloc::{AllocError, Global};
 use std::marker::Model;
 
@@ -121,6 +122,13 @@ impl Core {
         ensures rising { AreRising 0 self.now.script }
         ensures run { IsRunSoFar self.now.script self.now.steps }
     {
-        &self.work.record
+        self.work.record.record()
+    }
+
+    /// The line's reply, where it has one. Takes no memory.
+    pub fn reply(&self, line: u32) -> Option<&Reply>
+        ensures { option_copied result ≡ reply_to line self.now.steps }
+    {
+        self.work.record.reply_to(line)
     }
 }

@@ -4,7 +4,11 @@
 
 mod client;
 mod due;
+mod journal;
 mod turn;
 mod work;
 
 pub use client::Core;
+
+#[cfg(test)]
+mod tests;

@@ -8,29 +8,32 @@ ghost use Rattle.mount_model.specs.Run.{AreRising, startable, is_among, next_at}
 ghost use Rattle.line_table.specs.Table.{HasBegun};
 ghost use Rattle.job_table.specs.LiveJobs.{Held, held_at, with_taken, without, IsReadyIn, IsOutIn};
 ghost use Rattle.mount_core.specs.Due.{DueMeans};
+ghost use Rattle.mount_core.specs.Journal.{all_known};
 ghost use Rattle.mount_core.specs.Rising.{AreRising-prop};
 ghost use Rattle.mount_core.specs.Room.{owes_lines, owes_jobs};
 
 use crate::due::{Due, due_of};
+use crate::journal::Journal;
 use bucket_model::{Brief, Call};
 use job_table::Jobs;
 use line_table::Lines;
-use mount_model::{Answered, Event, Owner, Phase, Record, Reply, Script};
+use mount_model::{Answered, Event, Owner, Phase, Reply, Script};
 use std::alloc::{AllocError, Global};
 
-/// The parts of the mount. The record has room for all that lines and jobs still owe it, so that what has
-/// happened can always be told.
+/// The parts of the mount. The record has room for all that lines and jobs still owe it, and a place for the reply
+/// to each line, so that what has happened can always be told.
 #[derive(Drop)]
 pub struct Work {
     pub lines: Lines,
     pub jobs: Jobs,
-    pub record: Record,
+    pub record: Journal,
     pub time: u64,
     /// How many items lines and jobs still owe the record.
     pub owed: usize,
     pub alloc: Global,
     ghost counted: { owes_lines lines + owes_jobs jobs.held ≤ owed },
     ghost enough: { owed ≤ record.room },
+    ghost knows: { all_known record.known (map (λ s. s.line) lines) ≡ true },
     ghost rising: { AreRising 0 (map (λ s. s.line) lines) } by { AreRising-prop 0 (map (λ s. s.line) lines) },
 }
 
@@ -48,9 +51,9 @@ impl Work {
         let Some(owed) = script.len().checked_mul(2) else {
             return Err(AllocError);
         };
-        let lines = Lines::new(alloc, script)?;
-        let mut record = Record::new(alloc);
+        let mut record = Journal::new(alloc, script.as_slice())?;
         record.make_room(owed)?;
+        let lines = Lines::new(alloc, script)?;
         Ok(Work {
             lines,
             jobs: Jobs::new(alloc),

@@ -1,6 +1,7 @@
 use Rattle.std.proofs.Common.{arith}
 use Rattle.mount_model.specs.declared.standing.Phase.TheVariants.{Begun}
 use Rattle.mount_core.proofs.Kept.{owes-begun, rising-change}
+use Rattle.mount_core.proofs.Known.{known-change}
 use Rattle.mount_core.proofs.work.Work.begin_line.Goals as goal
 
 pub event-requires : goal.event-requires
@@ -15,5 +16,6 @@ invariant_of-self c =
     record {
       counted = rw c.begin.ensures (omega arith);
       enough = omega arith;
+      knows = rw c.begin.ensures (known-change c.args.line (λ phase. Begun _) _ _ c.args.self.now.lines c.event.ensures.known c.args.self.now.knows);
       rising = rw c.begin.ensures (rising-change c.args.line (λ phase. Begun _) c.args.self.now.lines c.args.self.now.rising);
     }

@@ -14,5 +14,6 @@ invariant_of-self c =
     record {
       counted = rw c.take-call.ensures.held (omega arith);
       enough = omega arith;
+      knows = rw c.event.ensures.known c.args.self.now.knows;
       rising = c.args.self.now.rising;
     }

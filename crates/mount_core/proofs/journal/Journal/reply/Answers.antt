@@ -1,0 +1,12 @@
+use Rattle.std.proofs.Common.{◌≡◌, true, sym, ap, ◌∙◌, subst, length}
+use Rattle.mount_model.specs.Run.{is_among}
+use Rattle.mount_core.specs.Journal.{Journaled, place_in}
+use Rattle.mount_core.proofs.Known.{known-get}
+use Rattle.mount_core.proofs.Places.{noted-push}
+use Rattle.mount_core.proofs.journal.Journal.reply.Goals as goal
+
+pub note_place-requires : goal.note_place-requires
+note_place-requires c = known-get c.args.reply.line c.self.inside.places.entries ∙ subst (λ (w : Journaled). is_among c.args.reply.line w.known ≡ true) (sym c.self.view_is) c.requires.known
+
+pub invariant_of-self : goal.invariant_of-self
+invariant_of-self c = rw c.reply.ensures.items (noted-push c.args.reply c.self.inside.record.items (place_in c.self.inside.places) (place_in c.note_place.new.places) (length c.items.result.now) (ap length c.items.ensures.items) c.note_place.ensures.places c.self.invariant)
