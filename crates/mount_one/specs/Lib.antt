@@ -1,3 +1,4 @@
 pub mod Headline
+pub mod Messages
 pub mod Reading
 pub mod Statuses

@@ -2,6 +2,11 @@
 //! `run` carries the whole promise; `main` only makes the real objects and tells the status.
 #![tactic(auto)]
 
+ghost use Rattle.std.specs.Prelude.{◌≡◌, ◌↔◌, IfErr};
+ghost use Rattle.std.specs.IoError.{error_kind};
+ghost use Rattle.std.specs.declared.io.ErrorKind.TheVariants.{OutOfMemory};
+ghost use Rattle.mount_one.specs.Statuses.{IsUnread};
+
 mod message;
 mod reading;
 mod served;
@@ -18,7 +23,9 @@ use status::Status;
 use std::{env, io, process};
 
 // The words behind the program's name.
-fn words_of(rt: &HostRuntime) -> Result<Vec<Text>, Status> {
+fn words_of(rt: &HostRuntime) -> Result<Vec<Text>, Status>
+    ensures { IfErr result IsUnread }
+{
     let mut words = Vec::new(rt.alloc());
     let arguments = match env::args(rt) {
         Ok(arguments) => arguments,
@@ -34,7 +41,10 @@ fn words_of(rt: &HostRuntime) -> Result<Vec<Text>, Status> {
 }
 
 // A word that isn't UTF-8 is none that the program knows.
-fn refusal_of(error: &io::Error) -> Status {
+fn refusal_of(error: &io::Error) -> Status
+    ensures memory { (result ≡ Status.NoMemory) ↔ (error_kind error.now ≡ OutOfMemory) }
+    ensures unread { IsUnread result }
+{
     match error.kind() {
         io::ErrorKind::OutOfMemory => Status::NoMemory,
         _ => Status::Usage,

@@ -1,8 +1,13 @@
+ghost use Rattle.std.specs.Prelude.{◌≡◌};
+ghost use Rattle.mount_one.specs.Messages.{cause_words, what_words};
+
 use crate::status::Status;
 use mount_model::{ScriptCause, What};
 use std::io;
 
-fn cause_text(cause: ScriptCause) -> &'static str {
+fn cause_text(cause: ScriptCause) -> &'static str
+    ensures { result.now ≡ cause_words cause }
+{
     match cause {
         ScriptCause::Actor => "actor",
         ScriptCause::Verb => "verb",
@@ -14,7 +19,9 @@ fn cause_text(cause: ScriptCause) -> &'static str {
     }
 }
 
-fn what_text(what: What) -> &'static str {
+fn what_text(what: What) -> &'static str
+    ensures { result.now ≡ what_words what }
+{
     match what {
         What::Bytes => "bytes",
     }
