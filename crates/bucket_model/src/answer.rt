@@ -1,6 +1,7 @@
 ghost use Rattle.std.specs.Prelude.{◌≡◌};
 ghost use Rattle.bucket_model.specs.Answers.{brief_of};
 
+use bytes::Bytes;
 use mp_types::ETag;
 
 /// What a bucket answers a call with.
@@ -14,6 +15,12 @@ pub enum Answer {
     Yes,
     /// No key begins so.
     No,
+    /// The bytes of the range that was asked for.
+    Bytes(Bytes),
+    /// The object has another ETag than the one asked for, or ends before the range does.
+    Changed,
+    /// No object stands at the key any more.
+    Gone,
     /// The new object's ETag.
     Made(ETag),
     /// The bucket failed. The call may have taken effect or not.
@@ -29,6 +36,9 @@ pub enum Brief {
     Missing,
     Yes,
     No,
+    Bytes { length: u64 },
+    Changed,
+    Gone,
     Made(ETag),
     Fault,
     NoMemory,
@@ -47,6 +57,11 @@ impl Answer {
             Answer::Missing => Brief::Missing,
             Answer::Yes => Brief::Yes,
             Answer::No => Brief::No,
+            Answer::Bytes(bytes) => Brief::Bytes {
+                length: bytes.len() as u64,
+            },
+            Answer::Changed => Brief::Changed,
+            Answer::Gone => Brief::Gone,
             Answer::Made(etag) => Brief::Made(etag.copy()),
             Answer::Fault => Brief::Fault,
             Answer::NoMemory => Brief::NoMemory,
@@ -67,6 +82,9 @@ impl Brief {
             Brief::Missing => Brief::Missing,
             Brief::Yes => Brief::Yes,
             Brief::No => Brief::No,
+            Brief::Bytes { length } => Brief::Bytes { length: *length },
+            Brief::Changed => Brief::Changed,
+            Brief::Gone => Brief::Gone,
             Brief::Made(etag) => Brief::Made(etag.copy()),
             Brief::Fault => Brief::Fault,
             Brief::NoMemory => Brief::NoMemory,

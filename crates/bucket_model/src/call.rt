@@ -1,18 +1,37 @@
 ghost use Rattle.std.specs.Prelude.{◌≡◌, IfOk};
 
 use bytes::Bytes;
-use mp_types::Key;
+use mp_types::{ETag, Key};
 use std::alloc::{AllocError, Global};
 
 /// A call of a bucket.
 #[derive(Debug, Drop)]
 pub enum Call {
     /// HeadObject: the ETag and the size of the object at the key.
-    Head { key: Key },
+    Head {
+        key: Key,
+    },
     /// ListObjectsV2 of one item: whether some key begins with this one followed by `/`.
-    Probe { key: Key },
+    Probe {
+        key: Key,
+    },
+    /// GetObject with a range and If-Match: the bytes `from..to` of the object at the key, where it still has
+    /// this ETag. `from` is less than `to`.
+    Get {
+        key: Key,
+        etag: ETag,
+        from: u64,
+        to: u64,
+    },
+    /// DeleteObject: no object stands at the key from now on. It succeeds where none stood there too.
+    Delete {
+        key: Key,
+    },
     /// PutObject: the object at the key is replaced by these bytes.
-    Put { key: Key, bytes: Bytes },
+    Put {
+        key: Key,
+        bytes: Bytes,
+    },
 }
 
 impl Call {
@@ -25,6 +44,20 @@ impl Call {
                 key: key.copy(alloc)?,
             }),
             Call::Probe { key } => Ok(Call::Probe {
+                key: key.copy(alloc)?,
+            }),
+            Call::Get {
+                key,
+                etag,
+                from,
+                to,
+            } => Ok(Call::Get {
+                key: key.copy(alloc)?,
+                etag: etag.copy(),
+                from: *from,
+                to: *to,
+            }),
+            Call::Delete { key } => Ok(Call::Delete {
                 key: key.copy(alloc)?,
             }),
             Call::Put { key, bytes } => Ok(Call::Put {

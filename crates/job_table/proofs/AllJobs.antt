@@ -4,7 +4,6 @@ use Rattle.std.proofs.lemmas.Map.Keys.{any_passes_from_place}
 use Rattle.std.specs.List.{AllByRecursion, slice_get}
 use Rattle.std.specs.Prelude.{◌==◌, if◌then◌else◌, length}
 use Rattle.bucket_model.specs.declared.call.Call.{Call}
-use Rattle.mount_model.specs.declared.event.Owner.{Owner}
 use Rattle.mount_model.specs.State.{Job, JobPhase, Ready, Out, Gone, job_at, change_job}
 use Rattle.mount_model.specs.Run.{ready, is_among}
 use Rattle.job_table.specs.LiveJobs.{Held, IsReadyIn, IsOutIn, held_at, with_taken, without, ready_numbers, held_of, AreNumbered}
@@ -12,27 +11,27 @@ use Rattle.job_table.proofs.Rising.{IsSame, IsOther, same_or_other, is_other}
 
 -- what stands of one job
 abbrev pub held_by : Job → JobPhase → List Held
-held_by job Ready = record { number = job.number; owner = job.owner; call = Some job.call } ∷ []
-held_by job (Out from) = record { number = job.number; owner = job.owner; call = None } ∷ []
+held_by job Ready = record { number = job.number; line = job.line; call = Some job.call } ∷ []
+held_by job (Out from) = record { number = job.number; line = job.line; call = None } ∷ []
 held_by job Gone = []
 
-held_by_cons : (number : ℕ) (owner : Owner) (call : Call) (phase : JobPhase) (jobs : List Job) → held_of (record { number = number; owner = owner; call = call; phase = phase } ∷ jobs) ≡ held_by (record { number = number; owner = owner; call = call; phase = phase }) phase ++ held_of jobs
-held_by_cons number owner call Ready jobs = refl
-held_by_cons number owner call (Out from) jobs = refl
-held_by_cons number owner call Gone jobs = refl
+held_by_cons : (number line : ℕ) (call : Call) (phase : JobPhase) (jobs : List Job) → held_of (record { number = number; line = line; call = call; phase = phase } ∷ jobs) ≡ held_by (record { number = number; line = line; call = call; phase = phase }) phase ++ held_of jobs
+held_by_cons number line call Ready jobs = refl
+held_by_cons number line call (Out from) jobs = refl
+held_by_cons number line call Gone jobs = refl
 
 pub held_of-cons : (job : Job) (jobs : List Job) → held_of (job ∷ jobs) ≡ held_by job job.phase ++ held_of jobs
-held_of-cons job jobs = held_by_cons job.number job.owner job.call job.phase jobs
+held_of-cons job jobs = held_by_cons job.number job.line job.call job.phase jobs
 
 -- one more job, which is ready
-pub held_of-push : (jobs : List Job) (number : ℕ) (owner : Owner) (call : Call) → held_of (jobs ++ record { number = number; owner = owner; call = call; phase = Ready } ∷ []) ≡ held_of jobs ++ record { number = number; owner = owner; call = Some call } ∷ []
-held_of-push [] number owner call = refl
-held_of-push (job ∷ jobs) number owner call = by_phase job.phase (held_of-push jobs number owner call)
+pub held_of-push : (jobs : List Job) (number line : ℕ) (call : Call) → held_of (jobs ++ record { number = number; line = line; call = call; phase = Ready } ∷ []) ≡ held_of jobs ++ record { number = number; line = line; call = Some call } ∷ []
+held_of-push [] number line call = refl
+held_of-push (job ∷ jobs) number line call = by_phase job.phase (held_of-push jobs number line call)
   where
-    by_phase : (phase : JobPhase) → held_of (jobs ++ record { number = number; owner = owner; call = call; phase = Ready } ∷ []) ≡ held_of jobs ++ record { number = number; owner = owner; call = Some call } ∷ []
-        → held_of (record { number = job.number; owner = job.owner; call = job.call; phase = phase } ∷ jobs ++ record { number = number; owner = owner; call = call; phase = Ready } ∷ []) ≡ held_of (record { number = job.number; owner = job.owner; call = job.call; phase = phase } ∷ jobs) ++ record { number = number; owner = owner; call = Some call } ∷ []
-    by_phase Ready rest = ap (λ t. record { number = job.number; owner = job.owner; call = Some job.call } ∷ t) rest
-    by_phase (Out from) rest = ap (λ t. record { number = job.number; owner = job.owner; call = None } ∷ t) rest
+    by_phase : (phase : JobPhase) → held_of (jobs ++ record { number = number; line = line; call = call; phase = Ready } ∷ []) ≡ held_of jobs ++ record { number = number; line = line; call = Some call } ∷ []
+        → held_of (record { number = job.number; line = job.line; call = job.call; phase = phase } ∷ jobs ++ record { number = number; line = line; call = call; phase = Ready } ∷ []) ≡ held_of (record { number = job.number; line = job.line; call = job.call; phase = phase } ∷ jobs) ++ record { number = number; line = line; call = Some call } ∷ []
+    by_phase Ready rest = ap (λ t. record { number = job.number; line = job.line; call = Some job.call } ∷ t) rest
+    by_phase (Out from) rest = ap (λ t. record { number = job.number; line = job.line; call = None } ∷ t) rest
     by_phase Gone rest = rest
 
 -- the ready jobs
@@ -41,7 +40,7 @@ ready_numbers-held_of [] = refl
 ready_numbers-held_of (job ∷ jobs) = by_phase job.phase (ready_numbers-held_of jobs)
   where
     by_phase : (phase : JobPhase) → ready_numbers (held_of jobs) ≡ ready jobs
-        → ready_numbers (held_of (record { number = job.number; owner = job.owner; call = job.call; phase = phase } ∷ jobs)) ≡ ready (record { number = job.number; owner = job.owner; call = job.call; phase = phase } ∷ jobs)
+        → ready_numbers (held_of (record { number = job.number; line = job.line; call = job.call; phase = phase } ∷ jobs)) ≡ ready (record { number = job.number; line = job.line; call = job.call; phase = phase } ∷ jobs)
     by_phase Ready rest = ap (λ t. job.number ∷ t) rest
     by_phase (Out from) rest = rest
     by_phase Gone rest = rest
@@ -105,7 +104,7 @@ changed_cons n phase job jobs other = rw other.test (held_of-cons job (change_jo
 
 changed_here : (n first : ℕ) (phase : JobPhase) (job : Job) (jobs : List Job) → IsSame n job.number → AreNumbered (first + 1) jobs → n < first + 1 → held_of (change_job n phase (job ∷ jobs)) ≡ held_by job phase ++ held_of jobs
 changed_here n first phase job jobs same numbered less =
-    rw (same.test, change_job-none n (first + 1) phase jobs numbered less) (held_by_cons job.number job.owner job.call phase jobs)
+    rw (same.test, change_job-none n (first + 1) phase jobs numbered less) (held_by_cons job.number job.line job.call phase jobs)
 
 without_here : (n : ℕ) (job : Job) (phase : JobPhase) (more : List Held) → IsSame n job.number → without n (held_by job phase ++ more) ≡ without n more
 without_here n job Ready more same = rw same.test refl
@@ -157,17 +156,17 @@ held_of-out n first from (head ∷ jobs) job numbered stands is_ready =
 
 -- where a job of the run stands
 
-out_here : (n from : ℕ) (head : Job) (phase : JobPhase) (more : List Held) → IsSame n head.number → phase ≡ Out from → held_at n (held_by head phase ++ more) ≡ Some (record { number = n; owner = head.owner; call = None })
+out_here : (n from : ℕ) (head : Job) (phase : JobPhase) (more : List Held) → IsSame n head.number → phase ≡ Out from → held_at n (held_by head phase ++ more) ≡ Some (record { number = n; line = head.line; call = None })
 out_here n from head Ready more same is_out = absurd (cc)
 out_here n from head (Out since) more same is_out = rw (same.test, same.same) refl
 out_here n from head Gone more same is_out = absurd (cc)
 
-ready_here : (n : ℕ) (head : Job) (phase : JobPhase) (more : List Held) → IsSame n head.number → phase ≡ Ready → held_at n (held_by head phase ++ more) ≡ Some (record { number = n; owner = head.owner; call = Some head.call })
+ready_here : (n : ℕ) (head : Job) (phase : JobPhase) (more : List Held) → IsSame n head.number → phase ≡ Ready → held_at n (held_by head phase ++ more) ≡ Some (record { number = n; line = head.line; call = Some head.call })
 ready_here n head Ready more same is_ready = rw (same.test, same.same) refl
 ready_here n head (Out since) more same is_ready = absurd (cc)
 ready_here n head Gone more same is_ready = absurd (cc)
 
-pub held_at-out : (n from : ℕ) (jobs : List Job) (job : Job) → job_at n jobs ≡ Some job → job.phase ≡ Out from → held_at n (held_of jobs) ≡ Some (record { number = n; owner = job.owner; call = None })
+pub held_at-out : (n from : ℕ) (jobs : List Job) (job : Job) → job_at n jobs ≡ Some job → job.phase ≡ Out from → held_at n (held_of jobs) ≡ Some (record { number = n; line = job.line; call = None })
 held_at-out n from [] job stands is_out = absurd (cc)
 held_at-out n from (head ∷ jobs) job stands is_out =
     elim (same_or_other n head.number) [
@@ -181,7 +180,7 @@ held_at-out n from (head ∷ jobs) job stands is_out =
           held_at-other n head jobs w ∙ held_at-out n from jobs job later is_out
     ]
 
-pub held_at-ready : (n : ℕ) (jobs : List Job) (job : Job) → job_at n jobs ≡ Some job → job.phase ≡ Ready → held_at n (held_of jobs) ≡ Some (record { number = n; owner = job.owner; call = Some job.call })
+pub held_at-ready : (n : ℕ) (jobs : List Job) (job : Job) → job_at n jobs ≡ Some job → job.phase ≡ Ready → held_at n (held_of jobs) ≡ Some (record { number = n; line = job.line; call = Some job.call })
 held_at-ready n [] job stands is_ready = absurd (cc)
 held_at-ready n (head ∷ jobs) job stands is_ready =
     elim (same_or_other n head.number) [
@@ -197,14 +196,14 @@ held_at-ready n (head ∷ jobs) job stands is_ready =
 
 pub is_out_in : (n from : ℕ) (jobs : List Job) (job : Job) → job_at n jobs ≡ Some job → job.phase ≡ Out from → IsOutIn n (held_of jobs)
 is_out_in n from jobs job stands is_out = record {
-  job = record { number = n; owner = job.owner; call = None };
+  job = record { number = n; line = job.line; call = None };
   stands = held_at-out n from jobs job stands is_out;
   is_out = refl;
 }
 
 pub is_ready_in : (n : ℕ) (jobs : List Job) (job : Job) → job_at n jobs ≡ Some job → job.phase ≡ Ready → IsReadyIn n (held_of jobs)
 is_ready_in n jobs job stands is_ready = record {
-  job = record { number = n; owner = job.owner; call = Some job.call };
+  job = record { number = n; line = job.line; call = Some job.call };
   stands = held_at-ready n jobs job stands is_ready;
   called = job.call;
   waits = refl;
@@ -223,17 +222,17 @@ ready_above n first [] numbered less = refl
 ready_above n first (job ∷ jobs) numbered less =
     by_phase job.phase (is_other n job.number (λ e. omega (arith, less, numbered.0, e))) (ready_above n (first + 1) jobs numbered.1 (omega (arith, less)))
   where
-    by_phase : (phase : JobPhase) → IsOther n job.number → is_among n (ready jobs) ≡ false → is_among n (ready (record { number = job.number; owner = job.owner; call = job.call; phase = phase } ∷ jobs)) ≡ false
+    by_phase : (phase : JobPhase) → IsOther n job.number → is_among n (ready jobs) ≡ false → is_among n (ready (record { number = job.number; line = job.line; call = job.call; phase = phase } ∷ jobs)) ≡ false
     by_phase Ready other rest = rw other.test rest
     by_phase (Out from) other rest = rest
     by_phase Gone other rest = rest
 
-among_here : (n : ℕ) (job : Job) (phase : JobPhase) (jobs : List Job) → is_among n (ready jobs) ≡ false → is_among n (ready (record { number = job.number; owner = job.owner; call = job.call; phase = phase } ∷ jobs)) ≡ true → phase ≡ Ready
+among_here : (n : ℕ) (job : Job) (phase : JobPhase) (jobs : List Job) → is_among n (ready jobs) ≡ false → is_among n (ready (record { number = job.number; line = job.line; call = job.call; phase = phase } ∷ jobs)) ≡ true → phase ≡ Ready
 among_here n job Ready jobs none among = refl
 among_here n job (Out from) jobs none among = absurd (cc)
 among_here n job Gone jobs none among = absurd (cc)
 
-among_later : (n : ℕ) (job : Job) (phase : JobPhase) (jobs : List Job) → IsOther n job.number → is_among n (ready (record { number = job.number; owner = job.owner; call = job.call; phase = phase } ∷ jobs)) ≡ true → is_among n (ready jobs) ≡ true
+among_later : (n : ℕ) (job : Job) (phase : JobPhase) (jobs : List Job) → IsOther n job.number → is_among n (ready (record { number = job.number; line = job.line; call = job.call; phase = phase } ∷ jobs)) ≡ true → is_among n (ready jobs) ≡ true
 among_later n job Ready jobs other among = rw other.test at among
 among_later n job (Out from) jobs other among = among
 among_later n job Gone jobs other among = among
@@ -266,7 +265,7 @@ all_gone : (jobs : List Job) → held_of jobs ≡ [] → AllByRecursion (λ (job
 all_gone [] none = tt
 all_gone (job ∷ jobs) none = by_phase job.phase none (all_gone jobs)
   where
-    by_phase : (phase : JobPhase) → held_of (record { number = job.number; owner = job.owner; call = job.call; phase = phase } ∷ jobs) ≡ [] → (held_of jobs ≡ [] → AllByRecursion (λ (j : Job). j.phase ≡ Gone) jobs)
+    by_phase : (phase : JobPhase) → held_of (record { number = job.number; line = job.line; call = job.call; phase = phase } ∷ jobs) ≡ [] → (held_of jobs ≡ [] → AllByRecursion (λ (j : Job). j.phase ≡ Gone) jobs)
         → (phase ≡ Gone) × AllByRecursion (λ (j : Job). j.phase ≡ Gone) jobs
     by_phase Ready empty rest = absurd (cc)
     by_phase (Out from) empty rest = absurd (cc)
@@ -285,7 +284,7 @@ pub numbered_push : (first : ℕ) (jobs : List Job) (job : Job) → AreNumbered 
 numbered_push first [] job numbered next = (omega (arith, next), tt)
 numbered_push first (head ∷ jobs) job numbered next = (numbered.0, numbered_push (first + 1) jobs job numbered.1 (omega (arith, next)))
 
-number_stays : (k : ℕ) (phase : JobPhase) (job : Job) (b : Bool) → (if b then record { number = job.number; owner = job.owner; call = job.call; phase = phase } else job).number ≡ job.number
+number_stays : (k : ℕ) (phase : JobPhase) (job : Job) (b : Bool) → (if b then record { number = job.number; line = job.line; call = job.call; phase = phase } else job).number ≡ job.number
 number_stays k phase job true = refl
 number_stays k phase job false = refl
 

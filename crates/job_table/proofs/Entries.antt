@@ -9,7 +9,6 @@ use Rattle.std.specs.Map.{lookup, remove_entry, set_value}
 use Rattle.std.specs.Ordering.{MatchOrdering}
 use Rattle.std.specs.Set.{remove_key}
 use Rattle.bucket_model.specs.declared.call.Call.{Call}
-use Rattle.mount_model.specs.declared.event.Owner.{Owner}
 use Rattle.job_table.specs.declared.jobs.Live.{Live}
 use Rattle.job_table.specs.LiveJobs.{Held, LiveJobs, IsOutIn, held_at, with_taken, without}
 use Rattle.job_table.specs.Kept.{held_entry, held_in, IsBetween, IsKept}
@@ -80,17 +79,17 @@ removed_in k first last (e ∷ es) rises =
       | inr w ↦ rw (w.test, w.by_order) (ap (λ t. held_entry e ∷ t) (removed_in k e.0 last es rises.1))
     ]
 
-set_in : (k first last : ℕ) (es : List (ℕ × Live)) (old new : Live) → IsBetween first (held_in es) last → lookup (is_at (nat_cmp k)) es ≡ Some old → new.owner ≡ old.owner → new.call ≡ None → held_in (set_value (is_at (nat_cmp k)) es new) ≡ with_taken k (held_in es)
-set_in k first last [] old new rises finds owner call = refl
-set_in k first last (e ∷ es) old new rises finds owner call =
+set_in : (k first last : ℕ) (es : List (ℕ × Live)) (old new : Live) → IsBetween first (held_in es) last → lookup (is_at (nat_cmp k)) es ≡ Some old → new.line ≡ old.line → new.call ≡ None → held_in (set_value (is_at (nat_cmp k)) es new) ≡ with_taken k (held_in es)
+set_in k first last [] old new rises finds line call = refl
+set_in k first last (e ∷ es) old new rises finds line call =
     elim (same_or_other k e.0) [
       | inl w ↦
           let here : Some e.1 ≡ Some old = rw w.by_order at finds in
-          let same : new.owner ≡ e.1.owner = cc in
+          let same : new.line ≡ e.1.line = cc in
           rw (w.test, w.by_order, same, call, taken_none k e.0 last (held_in es) (omega (arith, w.same)) rises.1) refl
       | inr w ↦
           let later : lookup (is_at (nat_cmp k)) es ≡ Some old = rw w.by_order at finds in
-          rw (w.test, w.by_order) (ap (λ t. held_entry e ∷ t) (set_in k e.0 last es old new rises.1 later owner call))
+          rw (w.test, w.by_order) (ap (λ t. held_entry e ∷ t) (set_in k e.0 last es old new rises.1 later line call))
     ]
 
 -- the table's steps
@@ -100,21 +99,21 @@ held_more : (es more : List (ℕ × Live)) (ready : List ℕ) (count number : �
 held_more es more ready count number live kept next is =
     ap held_in (is ∙ insert_last number live 0 count es kept.rises (omega (arith, next))) ∙ map-append held_entry es ((number, live) ∷ [])
 
-pub adds_one : (es more : List (ℕ × Live)) (ready : List ℕ) (count number : ℕ) (owner : Owner) (called : Call) → IsKept es ready count → number ≡ count + 1 → more ≡ insert_entry nat_cmp es number (record { owner = owner; call = Some called })
-    → jobs_of number (held_in more) ≡ jobs_of (count + 1) (held_in es ++ record { number = count + 1; owner = owner; call = Some called } ∷ [])
-adds_one es more ready count number owner called kept next is =
-    let same : held_in more ≡ held_in es ++ held_entry (number, record { owner = owner; call = Some called }) ∷ [] = held_more es more ready count number (record { owner = owner; call = Some called }) kept next is in
+pub adds_one : (es more : List (ℕ × Live)) (ready : List ℕ) (count number line : ℕ) (called : Call) → IsKept es ready count → number ≡ count + 1 → more ≡ insert_entry nat_cmp es number (record { line = line; call = Some called })
+    → jobs_of number (held_in more) ≡ jobs_of (count + 1) (held_in es ++ record { number = count + 1; line = line; call = Some called } ∷ [])
+adds_one es more ready count number line called kept next is =
+    let same : held_in more ≡ held_in es ++ held_entry (number, record { line = line; call = Some called }) ∷ [] = held_more es more ready count number (record { line = line; call = Some called }) kept next is in
     rw (same, next) refl
 
 low : (es : List (ℕ × Live)) (ready : List ℕ) (count number : ℕ) → IsKept es ready count → number ≡ count + 1 → AllByRecursion (λ n. n < number) ready
 low es ready count number kept next = subst (AllByRecursion (λ n. n < number)) (sym kept.stands) (ready_below number 0 count (held_in es) kept.rises (omega (arith, next)))
 
-pub keeps_more : (es more : List (ℕ × Live)) (ready keys : List ℕ) (count number : ℕ) (owner : Owner) (called : Call) → IsKept es ready count → number ≡ count + 1 → keys ≡ insert_key nat_cmp ready number → more ≡ insert_entry nat_cmp es number (record { owner = owner; call = Some called }) → IsKept more keys number
-keeps_more es more ready keys count number owner called kept next is_key is_entry =
-    let same : held_in more ≡ held_in es ++ held_entry (number, record { owner = owner; call = Some called }) ∷ [] = held_more es more ready count number (record { owner = owner; call = Some called }) kept next is_entry in
+pub keeps_more : (es more : List (ℕ × Live)) (ready keys : List ℕ) (count number line : ℕ) (called : Call) → IsKept es ready count → number ≡ count + 1 → keys ≡ insert_key nat_cmp ready number → more ≡ insert_entry nat_cmp es number (record { line = line; call = Some called }) → IsKept more keys number
+keeps_more es more ready keys count number line called kept next is_key is_entry =
+    let same : held_in more ≡ held_in es ++ held_entry (number, record { line = line; call = Some called }) ∷ [] = held_more es more ready count number (record { line = line; call = Some called }) kept next is_entry in
     record {
-      rises = rw same (between_push 0 count (held_in es) (held_entry (number, record { owner = owner; call = Some called })) kept.rises (omega (arith, next)));
-      stands = rw same (is_key ∙ insert_key_last number ready (low es ready count number kept next) ∙ ap (λ t. t ++ number ∷ []) kept.stands ∙ sym (ready_push number owner called (held_in es)));
+      rises = rw same (between_push 0 count (held_in es) (held_entry (number, record { line = line; call = Some called })) kept.rises (omega (arith, next)));
+      stands = rw same (is_key ∙ insert_key_last number ready (low es ready count number kept next) ∙ ap (λ t. t ++ number ∷ []) kept.stands ∙ sym (ready_push number line called (held_in es)));
     }
 
 -- a number that was added goes again
@@ -124,8 +123,8 @@ keeps_undone es same ready keys left count number kept next added is removed =
     let back : left ≡ ready = removed ∙ ap (remove_key (is_at (nat_cmp number))) (added ∙ insert_key_last number ready below) ∙ remove_key_last number ready below in
     rw (is, back) kept
 
-pub held_taken : (k : ℕ) (es after : List (ℕ × Live)) (ready : List ℕ) (count : ℕ) (old new : Live) → IsKept es ready count → lookup (is_at (nat_cmp k)) es ≡ Some old → after ≡ set_value (is_at (nat_cmp k)) es new → new.owner ≡ old.owner → new.call ≡ None → held_in after ≡ with_taken k (held_in es)
-held_taken k es after ready count old new kept finds is owner call = ap held_in is ∙ set_in k 0 count es old new kept.rises finds owner call
+pub held_taken : (k : ℕ) (es after : List (ℕ × Live)) (ready : List ℕ) (count : ℕ) (old new : Live) → IsKept es ready count → lookup (is_at (nat_cmp k)) es ≡ Some old → after ≡ set_value (is_at (nat_cmp k)) es new → new.line ≡ old.line → new.call ≡ None → held_in after ≡ with_taken k (held_in es)
+held_taken k es after ready count old new kept finds is line call = ap held_in is ∙ set_in k 0 count es old new kept.rises finds line call
 
 pub keeps_taken : (k : ℕ) (es after : List (ℕ × Live)) (ready keys : List ℕ) (count : ℕ) → IsKept es ready count → held_in after ≡ with_taken k (held_in es) → keys ≡ remove_key (is_at (nat_cmp k)) ready → IsKept after keys count
 keeps_taken k es after ready keys count kept same removed = record {

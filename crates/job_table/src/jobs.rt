@@ -1,8 +1,7 @@
-ghost use Rattle.std.specs.Prelude.{◌≡◌, ◌+◌, ◌↔◌, ◌∷◌, [], ◌++◌, Some, IfOk, OnOk, OnErr, IsTrue, slice_get};
+ghost use Rattle.std.specs.Prelude.{◌≡◌, ◌+◌, ◌↔◌, ◌∷◌, [], ◌++◌, Some, IfOk, OnOk, OnErr, IsTrue, length, slice_get};
 ghost use Rattle.job_table.specs.LiveJobs.{Held, IsReadyIn, IsOutIn, held_at, with_taken, without, ready_numbers};
 
 use bucket_model::Call;
-use mount_model::Owner;
 use std::alloc::{AllocError, Global};
 use std::collections::{BTreeMap, BTreeSet};
 use std::marker::Model;
@@ -10,7 +9,7 @@ use std::marker::Model;
 // A job's call is there until it is taken.
 #[derive(Drop)]
 struct Live {
-    owner: Owner,
+    line: u32,
     call: Option<Call>,
 }
 
@@ -47,10 +46,11 @@ impl Jobs {
         }
     }
 
-    /// One more job, which is ready, and its number. An error, which is want of memory or of numbers, drops the call.
-    pub fn ask(&mut self, owner: Owner, call: Call) -> Result<u64, AllocError>
+    /// One more job, which is ready, of the line whose turn asks for it, and its number. An error, which is want of
+    /// memory or of numbers, drops the call.
+    pub fn ask(&mut self, line: u32, call: Call) -> Result<u64, AllocError>
         ensures number { IfOk result (λ number. number ≡ self.old.count + 1) }
-        ensures ok { OnOk result (self.new ≡ record { count = self.old.count + 1; held = self.old.held ++ record { number = self.old.count + 1; owner = owner; call = Some call } ∷ [] }) }
+        ensures ok { OnOk result (self.new ≡ record { count = self.old.count + 1; held = self.old.held ++ record { number = self.old.count + 1; line = line; call = Some call } ∷ [] }) }
         ensures err { OnErr result (self.new ≡ self.old) }
     {
         let number = match self.count.checked_add(1) {
@@ -62,7 +62,7 @@ impl Jobs {
             Err(_) => return Err(AllocError),
         }
         let live = Live {
-            owner,
+            line,
             call: Some(call),
         };
         match self.live.insert(number, live) {
@@ -95,15 +95,15 @@ impl Jobs {
         call
     }
 
-    /// The owner of a job that is out, which is gone from now on. Takes no memory.
-    pub fn done(&mut self, job: u64) -> Owner
+    /// The line whose turn asked for this job, which is out, and is gone from now on. Takes no memory.
+    pub fn done(&mut self, job: u64) -> u32
         requires { IsOutIn job self.old.held }
-        ensures owner { (h : Held) → held_at job self.old.held ≡ Some h → result ≡ h.owner }
+        ensures line { (h : Held) → held_at job self.old.held ≡ Some h → result ≡ h.line }
         ensures count { self.new.count ≡ self.old.count }
         ensures held { self.new.held ≡ without job self.old.held }
     {
         match self.live.remove(&job) {
-            Some(live) => live.owner,
+            Some(live) => live.line,
             None => unreachable!(),
         }
     }
@@ -113,6 +113,13 @@ impl Jobs {
         ensures { result ≡ slice_get (ready_numbers self.now.held) place }
     {
         self.ready.iter().copied().nth(place)
+    }
+
+    /// How many jobs are ready.
+    pub fn ready_len(&self) -> usize
+        ensures { result ≡ length (ready_numbers self.now.held) }
+    {
+        self.ready.len()
     }
 
     /// Whether no job is ready or out.
@@ -145,18 +152,20 @@ mod tests {
     fn a_job_is_ready_until_it_is_taken(rt: HostRuntime) -> Result<(), Fail> {
         let alloc = rt.alloc();
         let mut jobs = Jobs::new(alloc);
-        assert_eq!(rt; jobs.ask(Owner::Line(7), head(alloc, "a")?)?, 1);
-        assert_eq!(rt; jobs.ask(Owner::Line(8), head(alloc, "b")?)?, 2);
-        assert_eq!(rt; jobs.ask(Owner::Line(9), head(alloc, "c")?)?, 3);
+        assert_eq!(rt; jobs.ask(7, head(alloc, "a")?)?, 1);
+        assert_eq!(rt; jobs.ask(8, head(alloc, "b")?)?, 2);
+        assert_eq!(rt; jobs.ask(9, head(alloc, "c")?)?, 3);
         assert_eq!(rt; jobs.ready(0), Some(1));
         assert_eq!(rt; jobs.ready(1), Some(2));
         assert_eq!(rt; jobs.ready(2), Some(3));
         assert_eq!(rt; jobs.ready(3), None);
+        assert_eq!(rt; jobs.ready_len(), 3);
         let second = jobs.take(2);
         assert!(rt; is_head(&second, "b"));
         assert_eq!(rt; jobs.ready(1), Some(3));
         assert_eq!(rt; jobs.ready(2), None);
-        assert_eq!(rt; jobs.done(2), Owner::Line(8));
+        assert_eq!(rt; jobs.ready_len(), 2);
+        assert_eq!(rt; jobs.done(2), 8);
         assert_eq!(rt; jobs.ready(0), Some(1));
         Ok(())
     }
@@ -166,14 +175,14 @@ mod tests {
         let alloc = rt.alloc();
         let mut jobs = Jobs::new(alloc);
         assert!(rt; jobs.is_empty());
-        assert_eq!(rt; jobs.ask(Owner::Line(7), head(alloc, "a")?)?, 1);
+        assert_eq!(rt; jobs.ask(7, head(alloc, "a")?)?, 1);
         let call = jobs.take(1);
         assert!(rt; is_head(&call, "a"));
         assert_eq!(rt; jobs.ready(0), None);
         assert!(rt; !jobs.is_empty());
-        assert_eq!(rt; jobs.done(1), Owner::Line(7));
+        assert_eq!(rt; jobs.done(1), 7);
         assert!(rt; jobs.is_empty());
-        assert_eq!(rt; jobs.ask(Owner::Line(7), head(alloc, "b")?)?, 2);
+        assert_eq!(rt; jobs.ask(7, head(alloc, "b")?)?, 2);
         Ok(())
     }
 }

@@ -168,19 +168,27 @@ due_here number actor request.Await (Begun answers) lines rising open_ =
       has_begun = record { standing = s; stands = rw (eq-eqb number number refl) refl; answers = answers; phase = refl };
     }
 due_here number actor (request.Stat path) (Begun answers) lines rising open_ = refl
+due_here number actor (request.OpenRead name path) (Begun answers) lines rising open_ = refl
+due_here number actor (request.Read name offset count) (Begun answers) lines rising open_ = refl
+due_here number actor (request.Close name) (Begun answers) lines rising open_ = refl
+due_here number actor (request.Delete key) (Begun answers) lines rising open_ = refl
 due_here number actor request Replied lines rising open_ = absurd (open_ refl)
 
 awaited_is : (s : Standing) (n : ℕ) → awaited s ≡ Some n → s.line.number ≡ n
 awaited_is s n is = by_phase s.phase is
   where
-    of_await : (q : Request) → (elim q as (λ x. Option ℕ) [ request.Put key content ↦ None | request.Await ↦ Some s.line.number | request.Stat path ↦ None ]) ≡ Some n → s.line.number ≡ n
-    of_await (request.Put key content) is = absurd (cc)
-    of_await request.Await is = cc
-    of_await (request.Stat path) is = absurd (cc)
+    of_await : (answers : List Brief) (q : Request) → awaited (record { line = record { number = s.line.number; actor = s.line.actor; request = q }; phase = Begun answers }) ≡ Some n → s.line.number ≡ n
+    of_await answers (request.Put key content) is = absurd (cc)
+    of_await answers request.Await is = cc
+    of_await answers (request.Stat path) is = absurd (cc)
+    of_await answers (request.OpenRead name path) is = absurd (cc)
+    of_await answers (request.Read name offset count) is = absurd (cc)
+    of_await answers (request.Close name) is = absurd (cc)
+    of_await answers (request.Delete key) is = absurd (cc)
 
     by_phase : (p : Phase) → awaited (record { line = s.line; phase = p }) ≡ Some n → s.line.number ≡ n
     by_phase Waiting is = absurd (cc)
-    by_phase (Begun answers) is = of_await s.line.request is
+    by_phase (Begun answers) is = of_await answers s.line.request is
     by_phase Replied is = absurd (cc)
 
 below_due : (n : ℕ) (x : Standing) (lines : List Standing) → x.phase ≡ Replied → (x.line.number == n) ≡ false → IsDue n lines → IsDue n (x ∷ lines)

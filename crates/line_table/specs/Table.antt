@@ -92,6 +92,10 @@ awaited s = by_phase s.phase
         by_request (request.Put key content) = None
         by_request request.Await = Some s.line.number
         by_request (request.Stat path) = None
+        by_request (request.OpenRead name path) = None
+        by_request (request.Read name offset count) = None
+        by_request (request.Close name) = None
+        by_request (request.Delete key) = None
     by_phase Replied = None
 
 -- what a table keeps true of its parts

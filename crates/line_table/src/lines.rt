@@ -1,4 +1,4 @@
-ghost use Rattle.std.specs.Prelude.{◌≡◌, ◌↔◌, List, [], ◌∷◌, map, true, IfOk, OnOk, OnErr, IsTrue, MatchOption, slice_get, option_copied};
+ghost use Rattle.std.specs.Prelude.{◌≡◌, ◌↔◌, List, [], ◌∷◌, map, true, IfOk, OnOk, OnErr, IsTrue, MatchOption, length, slice_get, option_copied};
 ghost use Rattle.std.specs.List.{AllByRecursion};
 ghost use Rattle.mount_model.specs.declared.request.Reply.TheVariants.{Success};
 ghost use Rattle.mount_model.specs.declared.standing.Phase.TheVariants.{Waiting, Begun, Replied};
@@ -71,6 +71,13 @@ impl Lines {
         ensures rising { AreRising 0 (map (λ s. s.line) self.now) }
     {
         self.startable.as_slice().get(i).copied()
+    }
+
+    /// How many lines may begin.
+    pub fn startable_len(&self) -> usize
+        ensures { result ≡ length (startable self.now) }
+    {
+        self.startable.len()
     }
 
     /// The line of this number.

@@ -78,6 +78,7 @@ fn the_lines_of_each_actor_begin_one_behind_the_other(rt: HostRuntime) -> Result
     let mut lines = Lines::new(alloc, script(alloc)?)?;
     assert_eq!(rt; first_two(&lines), (Some(2), Some(3)));
     assert_eq!(rt; lines.startable_at(2), None);
+    assert_eq!(rt; lines.startable_len(), 2);
     begin(&mut lines, alloc, 3)?;
     assert_eq!(rt; first_two(&lines), (Some(2), None));
     assert_eq!(rt;

@@ -17,7 +17,7 @@ use Rattle.bucket_model.specs.declared.call.Call.{Call}
 use Rattle.bucket_model.specs.declared.call.Call.TheVariants.{Head, Probe, Put}
 use Rattle.bucket_model.specs.declared.history.Logged.{Logged}
 use Rattle.bucket_model.specs.declared.history.Object.{Object}
-use Rattle.bucket_model.specs.Bucket.{empty_bucket, ObjectVersion, object_at, head_of, version_made, with_version}
+use Rattle.bucket_model.specs.Bucket.{BucketState, empty_bucket, ObjectVersion, after, object_at, head_of, version_made}
 use Rattle.bucket_model.specs.History.{replay, versions_of, IsLegalEntry, MayAnswer}
 use Rattle.mem_store.specs.Kept.{AreNumbered, IsKept}
 use Rattle.mem_store.specs.Served.{entry_of, etag_of_version, Finds, IsServed, Serves, probe_of}
@@ -25,29 +25,36 @@ use Rattle.mem_store.proofs.ETags.{version_etags_differ}
 use Rattle.mem_store.proofs.Replay.{legal_push, replay_push, versions_push, versions_from-few}
 
 -- the log with the entry of this call and answer
-abbrev with_entry : List Logged → Call → Brief → List Logged
+abbrev pub with_entry : List Logged → Call → Brief → List Logged
 with_entry log asked answer = log ++ entry_of asked answer ∷ []
 
 -- an entry that made no version
-pub keeps_reading : (objects : BTreeMap (List ℕ) Object) (log : List Logged) (versions : ℕ) (logged : Logged) → IsKept objects log versions → version_made (replay log) logged ≡ None → IsLegalEntry log logged → IsKept objects (log ++ logged ∷ []) versions
-keeps_reading objects log versions logged kept none legal =
-    let same_state : replay (log ++ logged ∷ []) ≡ replay log = replay_push log logged ∙ ap (with_version (replay log)) none in
-    let same_versions : versions_of (log ++ logged ∷ []) ≡ versions_of log = versions_push log logged ∙ ap (λ made. versions_of log ++ option_to_list made) none ∙ append-nil (versions_of log) in
+pub same_versions : (log : List Logged) (logged : Logged) → version_made (replay log) logged ≡ None → versions_of (log ++ logged ∷ []) ≡ versions_of log
+same_versions log logged none = versions_push log logged ∙ ap (λ made. versions_of log ++ option_to_list made) none ∙ append-nil (versions_of log)
+
+-- an entry that changed no object
+pub keeps_reading : (objects : BTreeMap (List ℕ) Object) (log : List Logged) (versions : ℕ) (logged : Logged) → IsKept objects log versions → after (replay log) logged ≡ replay log → version_made (replay log) logged ≡ None → IsLegalEntry log logged → IsKept objects (log ++ logged ∷ []) versions
+keeps_reading objects log versions logged kept same none legal =
     let Numbered : List ObjectVersion → Type 0 = λ made. AreNumbered made in
     record {
-      stands = λ key. ap (λ state. object_at state key) same_state ∙ kept.stands key;
+      stands = λ key. ap (λ state. object_at state key) (replay_push log logged ∙ same) ∙ kept.stands key;
       legal = legal_push log logged kept.legal legal;
-      numbered = subst Numbered (sym same_versions) kept.numbered;
-      counted = ap length same_versions ∙ kept.counted;
+      numbered = subst Numbered (sym (same_versions log logged none)) kept.numbered;
+      counted = ap length (same_versions log logged none) ∙ kept.counted;
     }
 
-no_version : (o : Option ObjectVersion) (version : ObjectVersion) → o ≡ None → o ≡ Some version → ⊥
-no_version o version none some = absurd (cc)
+-- a change of the object at one key
+pub changed_at : (objects changed : BTreeMap (List ℕ) Object) (old new : BucketState) (key : List ℕ) (value : Option Object) → ((q : List ℕ) → object_at old q ≡ tree.get (slice_cmp nat_cmp) objects q)
+    → ((q : List ℕ) → object_at new q ≡ cond (eq_by_cmp (slice_cmp nat_cmp) q key) value (object_at old q)) → Updates (slice_cmp nat_cmp) objects changed key value
+    → (q : List ℕ) → object_at new q ≡ tree.get (slice_cmp nat_cmp) changed q
+changed_at objects changed old new key value stands changes updates q =
+    changes q ∙ ap (λ o. cond (eq_by_cmp (slice_cmp nat_cmp) q key) value o) (stands q)
+    ∙ ap (λ b. cond b value (tree.get (slice_cmp nat_cmp) objects q)) ((eq_by_cmp_equiv nat_list_cmp_total).symm q key) ∙ sym (updates.0 q)
 
 -- HeadObject
 head_entry : (log : List Logged) (key : List ℕ) (object : Option Object) → object_at (replay log) key ≡ object → IsLegalEntry log (entry_of (Head key) (head_of object))
-head_entry log key None is = record { answered = ap head_of (sym is); took = λ _. refl; made = refl; one_content = λ new made. absurd (cc) }
-head_entry log key (Some object) is = record { answered = ap head_of (sym is); took = λ _. refl; made = refl; one_content = λ new made. absurd (cc) }
+head_entry log key None is = record { may = tt; answered = ap head_of (sym is); took = λ _. refl; made = refl; one_content = λ new made. absurd (cc) }
+head_entry log key (Some object) is = record { may = tt; answered = ap head_of (sym is); took = λ _. refl; made = refl; one_content = λ new made. absurd (cc) }
 
 head_legal : (log : List Logged) (key : List ℕ) (object : Option Object) (answer : Brief) → object_at (replay log) key ≡ object → answer ≡ head_of object → IsLegalEntry log (entry_of (Head key) answer)
 head_legal log key object answer is answers =
@@ -57,7 +64,7 @@ head_legal log key object answer is answers =
 pub head_keeps : (objects : BTreeMap (List ℕ) Object) (log new : List Logged) (versions : ℕ) (key : List ℕ) (answer : Brief) → IsKept objects log versions → answer ≡ head_of (tree.get (slice_cmp nat_cmp) objects key) → new ≡ with_entry log (Head key) answer → IsKept objects new versions
 head_keeps objects log new versions key answer kept answers is =
     let P : List Logged → Type 0 = λ l. IsKept objects l versions in
-    subst P (sym is) (keeps_reading objects log versions (entry_of (Head key) answer) kept refl (head_legal log key _ answer (kept.stands key) answers))
+    subst P (sym is) (keeps_reading objects log versions (entry_of (Head key) answer) kept refl refl (head_legal log key _ answer (kept.stands key) answers))
 
 head_serves : (old new : List Logged) (key : List ℕ) (object : Option Object) → object_at (replay old) key ≡ object → new ≡ with_entry old (Head key) (head_of object) → Serves (Head key) old new (head_of object)
 head_serves old new key None is new_is = (ap head_of (sym is), new_is)
@@ -79,12 +86,14 @@ some_along a b is some = let P : Option Object → Type 0 = λ o. IsSome o in su
 -- ListObjectsV2 of one item
 probe_entry : (objects : BTreeMap (List ℕ) Object) (log : List Logged) (versions : ℕ) (key : List ℕ) (found : Bool) → IsKept objects log versions → Finds objects (key ++ 47 ∷ []) found → IsLegalEntry log (entry_of (Probe key) (probe_of found))
 probe_entry objects log versions key true kept finds = record {
+  may = tt;
   answered = record { key = finds.0; stands = some_along _ _ (sym (kept.stands finds.0)) finds.1; below = finds.2 };
   took = λ _. refl;
   made = refl;
   one_content = λ new made. absurd (cc);
 }
 probe_entry objects log versions key false kept finds = record {
+  may = tt;
   answered = λ below. finds below.key (some_along _ _ (kept.stands below.key) below.stands) below.below;
   took = λ _. refl;
   made = refl;
@@ -99,7 +108,7 @@ probe_legal objects log versions key found answer kept finds answers =
 pub probe_keeps : (objects : BTreeMap (List ℕ) Object) (log new : List Logged) (versions : ℕ) (key : List ℕ) (found : Bool) (answer : Brief) → IsKept objects log versions → Finds objects (key ++ 47 ∷ []) found → answer ≡ probe_of found → new ≡ with_entry log (Probe key) answer → IsKept objects new versions
 probe_keeps objects log new versions key found answer kept finds answers is =
     let P : List Logged → Type 0 = λ l. IsKept objects l versions in
-    subst P (sym is) (keeps_reading objects log versions (entry_of (Probe key) answer) kept refl (probe_legal objects log versions key found answer kept finds answers))
+    subst P (sym is) (keeps_reading objects log versions (entry_of (Probe key) answer) kept refl refl (probe_legal objects log versions key found answer kept finds answers))
 
 probe_serves : (old new : List Logged) (key : List ℕ) (found : Bool) → MayAnswer (replay old) (Probe key) (probe_of found) → new ≡ with_entry old (Probe key) (probe_of found) → Serves (Probe key) old new (probe_of found)
 probe_serves old new key true answered new_is = (answered, new_is)
@@ -128,6 +137,7 @@ put_one_content log versions new v numbered counted small is among same =
 
 put_entry : (objects : BTreeMap (List ℕ) Object) (log : List Logged) (versions : ℕ) (key bytes : List ℕ) → IsKept objects log versions → versions + 1 < 2 ^ 64 → IsLegalEntry log (entry_of (Put key bytes) (Made (etag_of_version (versions + 1))))
 put_entry objects log versions key bytes kept small = record {
+  may = tt;
   answered = tt;
   took = λ _. refl;
   made = refl;
@@ -150,17 +160,14 @@ put_keeps_own objects changed log versions key bytes kept small updates =
     let logged = entry_of (Put key bytes) (Made (etag_of_version (versions + 1))) in
     let object : Object = record { etag = etag_of_version (versions + 1); bytes = bytes } in
     let version = made_at key bytes (versions + 1) in
-    let same_versions : versions_of (log ++ logged ∷ []) ≡ versions_of log ++ version ∷ [] = versions_push log logged in
+    let more_versions : versions_of (log ++ logged ∷ []) ≡ versions_of log ++ version ∷ [] = versions_push log logged in
     let Numbered : List ObjectVersion → Type 0 = λ made. AreNumbered made in
     record {
-      stands = λ q.
-          ap (λ state. object_at state q) (replay_push log logged) ∙ get-insert nat_list_cmp_total (replay log).objects key object q
-          ∙ ap (λ o. cond (eq_by_cmp (slice_cmp nat_cmp) q key) (Some object) o) (kept.stands q)
-          ∙ ap (λ b. cond b (Some object) (tree.get (slice_cmp nat_cmp) objects q)) ((eq_by_cmp_equiv nat_list_cmp_total).symm q key)
-          ∙ sym (updates.0 q);
+      stands = changed_at objects changed (replay log) (replay (log ++ logged ∷ [])) key (Some object) kept.stands
+          (λ q. ap (λ state. object_at state q) (replay_push log logged) ∙ get-insert nat_list_cmp_total (replay log).objects key object q) updates;
       legal = legal_push log logged kept.legal (put_entry objects log versions key bytes kept small);
-      numbered = subst Numbered (sym same_versions) (numbered_push (versions_of log) version kept.numbered (ap (λ n. etag_of_version (n + 1)) (sym kept.counted)));
-      counted = ap length same_versions ∙ omega (arith, length-append (versions_of log) (version ∷ []), kept.counted);
+      numbered = subst Numbered (sym more_versions) (numbered_push (versions_of log) version kept.numbered (ap (λ n. etag_of_version (n + 1)) (sym kept.counted)));
+      counted = ap length more_versions ∙ omega (arith, length-append (versions_of log) (version ∷ []), kept.counted);
     }
 
 pub put_keeps : (objects changed : BTreeMap (List ℕ) Object) (log new : List Logged) (versions : ℕ) (key bytes etag : List ℕ) → IsKept objects log versions → versions + 1 < 2 ^ 64

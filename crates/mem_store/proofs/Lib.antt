@@ -1,6 +1,9 @@
 pub mod Adds
+pub mod Deletes
 pub mod ETags
 pub mod First
+pub mod Gets
 pub mod Keeps
 pub mod Prefixes
 pub mod Replay
+pub mod Versions

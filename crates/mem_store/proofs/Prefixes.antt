@@ -1,10 +1,11 @@
 -- Keys that begin alike stand together, from what they begin with on.
-use Rattle.std.proofs.Common.{◌≡◌, ℕ, ◌<◌, ◌⊎◌, inl, inr, Bool, true, false, ◌&&◌, List, [], ◌∷◌, refl, subst, arith, is_gt, nat_cmp, Ordering, Less, Equal, Greater, eqb-true, eq-eqb}
+use Rattle.std.proofs.Common.{◌≡◌, ℕ, ◌<◌, ◌⊎◌, inl, inr, true, false, List, [], ◌∷◌, refl, subst, arith, is_gt, nat_cmp, Ordering, Less, Equal, Greater, eqb-true, eq-eqb}
 use Rattle.std.specs.Cmp.{nat_cmp_total}
 use Rattle.std.specs.Cmp.Lexicographic.{slice_cmp}
 use Rattle.std.specs.List.{starts_with}
 use Rattle.std.specs.Ordering.{MatchOrdering, ordering_then}
 use Rattle.std.specs.Prelude.{nat_eq}
+use Rattle.std.proofs.lemmas.Bool.{and_from, and_parts}
 use Rattle.std.proofs.lemmas.Cmp.{ranked, tied_itself}
 
 -- the first bytes decide, or they are the same
@@ -16,17 +17,9 @@ first_or_rest x y Greater rest ranks upto = absurd (cc)
 upto_cons : (x y : ℕ) (xs ys : List ℕ) → is_gt (slice_cmp nat_cmp (x ∷ xs) (y ∷ ys)) ≡ false → (x < y) ⊎ ((x ≡ y) × (is_gt (slice_cmp nat_cmp xs ys) ≡ false))
 upto_cons x y xs ys upto = first_or_rest x y (nat_cmp x y) (slice_cmp nat_cmp xs ys) (ranked x y _ refl) upto
 
-both : (a b : Bool) → (a && b) ≡ true → (a ≡ true) × (b ≡ true)
-both true b h = (refl, h)
-both false b h = absurd (cc)
-
-two_true : (a b : Bool) → a ≡ true → b ≡ true → (a && b) ≡ true
-two_true true b h k = k
-two_true false b h k = h
-
 begins_cons : (x y : ℕ) (xs ys : List ℕ) → starts_with nat_eq (y ∷ ys) (x ∷ xs) ≡ true → (x ≡ y) × (starts_with nat_eq ys xs ≡ true)
 begins_cons x y xs ys h =
-    let parts = both (nat_eq x y) (starts_with nat_eq ys xs) h in
+    let parts = and_parts (nat_eq x y) (starts_with nat_eq ys xs) h in
     (eqb-true x y parts.0, parts.1)
 
 same_first : (o q : Ordering) → o ≡ Equal → is_gt q ≡ false → is_gt (ordering_then o q) ≡ false
@@ -55,6 +48,6 @@ between (x ∷ xs) (y ∷ ys) (z ∷ zs) begins low high =
       | inl less ↦ elim (upto_cons y z ys zs high) [ inl more ↦ absurd (omega (arith, parts.0)) | inr same ↦ absurd (omega (arith, parts.0, same.0)) ]
       | inr same ↦ elim (upto_cons y z ys zs high) [
         | inl more ↦ absurd (omega (arith, parts.0, same.0))
-        | inr also ↦ two_true (nat_eq x y) (starts_with nat_eq ys xs) (eq-eqb x y same.0) (between xs ys zs parts.1 same.1 also.1)
+        | inr also ↦ and_from (nat_eq x y) (starts_with nat_eq ys xs) (eq-eqb x y same.0) (between xs ys zs parts.1 same.1 also.1)
       ]
     ]

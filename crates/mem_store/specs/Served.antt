@@ -1,13 +1,15 @@
 -- What one call of a bucket in memory does to its log.
-use Rattle.std.specs.Prelude.{◌≡◌, ℕ, ◌+◌, List, [], ◌∷◌, ◌++◌, length, nat_eq, Bool, true, false, Option, Some, None, IsSome}
+use Rattle.std.specs.Prelude.{◌≡◌, ℕ, ◌+◌, List, [], ◌∷◌, ◌++◌, length, nat_eq, nat_le, ◌&&◌, Bool, true, false, if◌then◌else◌, Option, Some, None, IsSome}
 use Rattle.std.specs.BTreeMap as tree
-use Rattle.std.specs.Cmp.Lexicographic.{slice_cmp}
+use Rattle.std.specs.Cmp.Lexicographic.{slice_cmp, pointwise}
 use Rattle.std.specs.Fmt.{decimal}
-use Rattle.std.specs.List.{starts_with}
+use Rattle.std.specs.List.{starts_with, slice_range}
 use Rattle.std.specs.Ordering.{nat_cmp}
 use Rattle.bucket_model.specs.declared.call.Call.{Call}
+use Rattle.bucket_model.specs.declared.answer.Answer.{Answer}
+use Rattle.bucket_model.specs.declared.answer.Answer.TheVariants as answer
 use Rattle.bucket_model.specs.declared.answer.Brief.{Brief}
-use Rattle.bucket_model.specs.declared.answer.Brief.TheVariants.{Found, Missing, Yes, No, Made, Fault, NoMemory}
+use Rattle.bucket_model.specs.declared.answer.Brief.TheVariants.{Found, Missing, Yes, No, Bytes, Changed, Gone, Made, Fault, NoMemory}
 use Rattle.bucket_model.specs.declared.history.Name.{Name}
 use Rattle.bucket_model.specs.declared.history.Name.TheVariants.{Version}
 use Rattle.bucket_model.specs.declared.history.Logged.{Logged}
@@ -26,6 +28,9 @@ made_by (Found etag size) = None
 made_by Missing = None
 made_by Yes = None
 made_by No = None
+made_by (Bytes count) = None
+made_by Changed = None
+made_by Gone = None
 made_by Fault = None
 made_by NoMemory = None
 
@@ -47,6 +52,11 @@ abbrev pub probe_of : Bool → Brief
 probe_of true = Yes
 probe_of false = No
 
+-- the answer of a get of the object, with the bytes that it brings
+abbrev pub answer_of_get : List ℕ → ℕ → ℕ → Option Object → Answer
+answer_of_get etag from to None = answer.Missing
+answer_of_get etag from to (Some object) = if pointwise nat_eq object.etag etag && nat_le to (length object.bytes) then answer.Bytes (slice_range object.bytes from to) else answer.Changed
+
 -- want of memory leaves no entry, and a fault never comes
 abbrev pub Serves : Call → List Logged → List Logged → Brief → Type 0
 Serves asked old new NoMemory = new ≡ old
@@ -55,6 +65,9 @@ Serves asked old new (Found etag size) = IsAnswer (replay old) asked (Found etag
 Serves asked old new Missing = IsAnswer (replay old) asked Missing × (new ≡ old ++ entry_of asked Missing ∷ [])
 Serves asked old new Yes = IsAnswer (replay old) asked Yes × (new ≡ old ++ entry_of asked Yes ∷ [])
 Serves asked old new No = IsAnswer (replay old) asked No × (new ≡ old ++ entry_of asked No ∷ [])
+Serves asked old new (Bytes count) = IsAnswer (replay old) asked (Bytes count) × (new ≡ old ++ entry_of asked (Bytes count) ∷ [])
+Serves asked old new Changed = IsAnswer (replay old) asked Changed × (new ≡ old ++ entry_of asked Changed ∷ [])
+Serves asked old new Gone = IsAnswer (replay old) asked Gone × (new ≡ old ++ entry_of asked Gone ∷ [])
 Serves asked old new (Made etag) = IsAnswer (replay old) asked (Made etag) × (new ≡ old ++ entry_of asked (Made etag) ∷ [])
     × (etag ≡ etag_of_version (length (versions_of old) + 1))
 

@@ -1,11 +1,11 @@
-ghost use Rattle.std.specs.Prelude.{◌≡◌, [], ◌∷◌, ◌++◌, IfOk, OnOk, OnErr};
+ghost use Rattle.std.specs.Prelude.{◌≡◌, ◌<◌, [], ◌∷◌, ◌++◌, None, IfOk, OnOk, OnErr};
 ghost use Rattle.std.specs.BTreeMap as tree;
 ghost use Rattle.std.specs.BTreeMap.{IsUnchanged, Updates};
 ghost use Rattle.std.specs.Cmp.Lexicographic.{slice_cmp};
 ghost use Rattle.std.specs.Ordering.{nat_cmp};
 ghost use Rattle.bucket_model.specs.Answers.{brief_of};
 ghost use Rattle.bucket_model.specs.Bucket.{head_of};
-ghost use Rattle.mem_store.specs.Served.{etag_of_version, Finds, probe_of};
+ghost use Rattle.mem_store.specs.Served.{answer_of_get, etag_of_version, Finds, probe_of};
 
 use bucket_model::{Answer, Object};
 use bytes::Bytes;
@@ -71,6 +71,27 @@ pub fn probe_answer(found: bool) -> Answer
     if found { Answer::Yes } else { Answer::No }
 }
 
+// What GetObject with a range and If-Match answers. Bytes are shared with the object and not copied, so memory
+// is wanting only where no more may share them.
+pub fn get_answer(
+    objects: &BTreeMap<Text, Object>,
+    key: &Key,
+    etag: &ETag,
+    from: u64,
+    to: u64,
+) -> Result<Answer, AllocError>
+    requires { from < to }
+    ensures { IfOk result (λ answer. answer ≡ answer_of_get etag.now from to (tree.get (slice_cmp nat_cmp) objects.now key.now)) }
+{
+    match objects.get(key.as_text()) {
+        Some(object) if object.etag == *etag && to <= object.bytes.len() as u64 => {
+            Ok(Answer::Bytes(object.bytes.slice(from as usize..to as usize)?))
+        }
+        Some(_) => Ok(Answer::Changed),
+        None => Ok(Answer::Missing),
+    }
+}
+
 // The ETag of the version with this number.
 fn version_etag(alloc: Global, number: u64) -> Result<ETag, AllocError>
     ensures { IfOk result (λ etag. etag ≡ etag_of_version number) }
@@ -102,4 +123,11 @@ pub fn put_version(
     };
     objects.insert(text, object)?;
     Ok(etag)
+}
+
+// Takes the object at the key away, if one stands there.
+pub fn remove_object(objects: &mut BTreeMap<Text, Object>, key: &Key)
+    ensures { Updates (slice_cmp nat_cmp) objects.old objects.new key.now None }
+{
+    objects.remove(key.as_text());
 }

@@ -3,8 +3,6 @@ use Rattle.std.proofs.Common.{◌≡◌, ℕ, Bool, true, false, eqb, List, [], 
 use Rattle.bucket_model.specs.declared.call.Call.TheVariants as call
 use Rattle.mount_model.specs.declared.standing.Phase.{Phase}
 use Rattle.mount_model.specs.declared.standing.Standing.{Standing}
-use Rattle.mount_model.specs.declared.event.Owner.{Owner}
-use Rattle.mount_model.specs.declared.event.Owner.TheVariants as owner
 use Rattle.mount_model.specs.declared.event.AskedCall.{AskedCall}
 use Rattle.mount_model.specs.declared.event.AskedCall.TheVariants as asked
 use Rattle.mount_model.specs.State.{line_at, change_line, content_of, whole_call}
@@ -57,7 +55,9 @@ content_of-change m n f (s ∷ lines) = at_both (eqb s.line.number n) refl (eqb 
     at_both false e true h below = rw (e, h) refl
     at_both false e false h below = rw (e, h) below
 
-pub whole_call-change : (n : ℕ) (f : Phase → Phase) (lines : List Standing) (o : Owner) (a : AskedCall) → whole_call (change_line n f lines) o a ≡ whole_call lines o a
-whole_call-change n f lines o (asked.Head key) = refl
-whole_call-change n f lines o (asked.Probe key) = refl
-whole_call-change n f lines (owner.Line m) (asked.Put key size) = ap (λ b. call.Put key b) (content_of-change m n f lines)
+pub whole_call-change : (n : ℕ) (f : Phase → Phase) (lines : List Standing) (m : ℕ) (a : AskedCall) → whole_call (change_line n f lines) m a ≡ whole_call lines m a
+whole_call-change n f lines m (asked.Head key) = refl
+whole_call-change n f lines m (asked.Probe key) = refl
+whole_call-change n f lines m (asked.Get key etag from to) = refl
+whole_call-change n f lines m (asked.Delete key) = refl
+whole_call-change n f lines m (asked.Put key size) = ap (λ b. call.Put key b) (content_of-change m n f lines)

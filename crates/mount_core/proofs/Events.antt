@@ -1,37 +1,47 @@
 -- Each event of a core, from the parts before it to the parts behind it.
-use Rattle.std.proofs.Common.{◌≡◌, ◌≢◌, ℕ, ◌+◌, ◌<◌, true, List, [], ◌∷◌, ◌++◌, map, length, max, Option, Some, None, refl, sym, ap, ◌∙◌, subst, arith, append-nil, add-zero, ◌↔◌}
+use Rattle.std.proofs.Common.{◌≡◌, ◌≢◌, ℕ, ◌+◌, ◌<◌, true, List, [], ◌∷◌, ◌++◌, map, length, max, Option, Some, None, refl, sym, ap, ◌∙◌, subst, inr, arith, append-nil, add-zero, ◌↔◌}
 use Rattle.std.specs.List.{AllByRecursion}
 use Rattle.bucket_model.specs.declared.call.Call.{Call}
+use Rattle.bucket_model.specs.declared.answer.Answer.{Answer}
+use Rattle.bucket_model.specs.declared.answer.Answer.TheVariants as full
 use Rattle.bucket_model.specs.declared.answer.Brief.{Brief}
+use Rattle.bucket_model.specs.declared.answer.Brief.TheVariants.{Bytes}
+use Rattle.bucket_model.specs.Answers.{MayBeMade, brief_of, bytes_in}
+use Rattle.mount_model.specs.declared.handle.Handle.{Handle}
 use Rattle.mount_model.specs.declared.request.Line.{Line}
 use Rattle.mount_model.specs.declared.request.Request.{Request}
 use Rattle.mount_model.specs.declared.request.Request.TheVariants as request
 use Rattle.mount_model.specs.declared.event.Event.{Event}
 use Rattle.mount_model.specs.declared.event.Event.TheVariants.{Begin, Take, Done}
-use Rattle.mount_model.specs.declared.event.AskedCall.{AskedCall}
-use Rattle.mount_model.specs.declared.event.Owner.{Owner}
-use Rattle.mount_model.specs.declared.event.Owner.TheVariants as owner
 use Rattle.mount_model.specs.declared.standing.Phase.TheVariants.{Waiting, Begun, Replied}
 use Rattle.mount_model.specs.declared.standing.Standing.{Standing}
 use Rattle.mount_model.specs.Step.{Step, step_of, MayAsk, HasStep}
-use Rattle.mount_model.specs.State.{ClientState, Job, Out, Gone, opening, after, state_after, line_at, change_line, heard, lines_at, jobs_at, job_at, change_job, owner_hears, time_after, whole_call}
-use Rattle.mount_model.specs.Conversation.{Next, Waits, next_of}
-use Rattle.mount_model.specs.Run.{IsLegalStep, IsRunSoFar, AreRising, MayDone, TurnOf, turn_of_owner, next_at, due_awaits, startable, ready, is_among, IsQuiet}
+use Rattle.mount_model.specs.State.{ClientState, Job, Out, Gone, opening, after, state_after, line_at, change_line, heard, lines_at, line_of, jobs_at, job_at, change_job, hears, time_after, whole_call, next_at}
+use Rattle.mount_model.specs.Conversation.{Asks, Gives, Waits, next_of}
+use Rattle.mount_model.specs.Handles.{Opened, name_in, handle_named, handle_of}
+use Rattle.mount_model.specs.Run.{IsLegalStep, IsRunSoFar, AreRising, MayDone, owner_at, due_awaits, startable, ready, is_among, IsQuiet}
 use Rattle.line_table.specs.Table.{HasBegun}
 use Rattle.job_table.specs.LiveJobs as table
 use Rattle.job_table.proofs.AllJobs.{held_of-gone, held_of-out, held_at-out, held_at-ready, is_out_in, is_ready_in, ready_job, held_of-empty}
 use Rattle.run_laws.specs.Alive as laws
 use Rattle.run_laws.specs.Work.{work_left}
-use Rattle.run_laws.proofs.Alive.{alive, work_falls, hears-is, turn-is}
+use Rattle.run_laws.proofs.Alive.{alive, work_falls, hears-is, line-is}
 use Rattle.run_laws.proofs.Served.{served}
 use Rattle.run_laws.proofs.Lines.{lines-replies, lines-event, lines-opening, Rises-lines}
 use Rattle.run_laws.proofs.Orderly.{startable-found}
 use Rattle.run_laws.proofs.Conversation.{only_await_waits}
+use Rattle.run_laws.proofs.Faithful.{job_makes_call, calls_made}
 use Rattle.run_laws.proofs.Jobs.{length-change_job}
+use Rattle.mount_core.specs.declared.handles.Handles.{Handles}
 use Rattle.mount_core.specs.declared.work.Work.{Work}
-use Rattle.mount_core.specs.Turn.{heard_last, with_turn, with_asks, GoesOn, Answers}
+use Rattle.mount_core.specs.declared.due.Due.{Due}
+use Rattle.mount_core.specs.Due.{DueMeans}
+use Rattle.mount_core.specs.Handles.{Keeps}
+use Rattle.mount_core.specs.Turn.{heard_last, with_turn, MayGoOn, GoesOn, Answers}
 use Rattle.mount_core.specs.Core.{state_of, Advances, IsCore, core_of}
 use Rattle.mount_core.proofs.Changes.{line_at-change, change_line-same, whole_call-change}
+use Rattle.mount_core.proofs.Dues.{next_at-begun}
+use Rattle.mount_core.proofs.Questions.{gives_none, gives_brought}
 use Rattle.mount_core.proofs.Steps.{HasStep-asking, HasStep-change_last}
 use Rattle.mount_core.proofs.Advance.{TurnDone, turn_done, core_goes_on, core_advances}
 
@@ -47,27 +57,26 @@ numbered n [] h = tt
 numbered n (job ∷ jobs) h = (h.0, numbered (n + 1) jobs h.1)
 
 -- the lines say what they said
-script_kept : (old begun new : Work) (event : Event) → IsCore old (core_of old) → TurnDone (state_of (core_of old)) event old.record.steps begun new → map (λ s. s.line) new.lines ≡ map (λ s. s.line) old.lines
-script_kept old begun new event core done =
+script_kept : (old begun new : Work) (event : Event) (bytes : List ℕ) → IsCore old (core_of old) → TurnDone (state_of (core_of old)) event bytes old.record.steps begun new → map (λ s. s.line) new.lines ≡ map (λ s. s.line) old.lines
+script_kept old begun new event bytes core done =
     let s : ClientState = state_of (core_of old) in
     ap (map (λ s. s.line)) done.lines ∙ (lines-replies (lines_at s.lines s.jobs event) done.step.replies ∙ (lines-event s.lines s.jobs event ∙ ap (map (λ s. s.line)) (sym core.lines)))
 
 -- What an event leaves of a core.
-pub record Leaves (event : Event) (old new : Work) : Type 0 where
+pub record Leaves (event : Event) (bytes : List ℕ) (old new : Work) : Type 0 where
   pub stands : IsCore new (core_of new)
-  pub advances : Advances event (core_of old) (core_of new)
+  pub advances : Advances event bytes (core_of old) (core_of new)
 
-leaves : (old : Work) (event : Event) (begun new : Work) → IsCore old (core_of old) → TurnDone (state_of (core_of old)) event old.record.steps begun new →
+leaves : (old : Work) (event : Event) (bytes : List ℕ) (begun new : Work) → IsCore old (core_of old) → TurnDone (state_of (core_of old)) event bytes old.record.steps begun new →
     begun.time ≡ time_after (state_of (core_of old)).time event →
     begun.jobs.held ≡ table.held_of (jobs_at (state_of (core_of old)).jobs event) →
     begun.jobs.count ≡ length (jobs_at (state_of (core_of old)).jobs event) →
-    ((o : Owner) (a : AskedCall) → whole_call begun.lines o a ≡ whole_call (state_of (core_of old)).lines o a) →
-    Leaves event old new
-leaves old event begun new core done time held count same =
-    let kept = script_kept old begun new event core done in
+    Leaves event bytes old new
+leaves old event bytes begun new core done time held count =
+    let kept = script_kept old begun new event bytes core done in
     record {
-      stands = core_goes_on old event begun new core done kept time held count same;
-      advances = core_advances old event begun new done kept (falls old core);
+      stands = core_goes_on old event bytes begun new core done kept time held count;
+      advances = core_advances old event bytes begun new done kept (falls old core);
     }
 
 -- A line begins.
@@ -77,27 +86,33 @@ pub begin_leaves : (old begun turned new : Work) (n time : ℕ) → IsCore old (
     begun.record.steps ≡ old.record.steps ++ step_of (Begin n (max old.time time)) ∷ [] →
     begun.lines ≡ change_line n (λ phase. Begun []) old.lines →
     begun.jobs ≡ old.jobs →
-    GoesOn n None (next_at n (change_line n (heard_last None) begun.lines)) begun turned →
+    begun.handles ≡ old.handles →
+    (bytes : List ℕ) →
+    bytes ≡ [] →
+    ((handles : List Opened) → Keeps begun.handles handles → GoesOn n None bytes handles begun turned) →
     Answers (due_awaits turned.lines) turned new →
-    Leaves (Begin n (max (state_of (core_of old)).time time)) old new
-begin_leaves old begun turned new n time core may time_is steps lines jobs goes answers =
+    new.handles ≡ turned.handles →
+    Leaves (Begin n (max (state_of (core_of old)).time time)) [] old new
+begin_leaves old begun turned new n time core may time_is steps lines jobs same bytes empty goes answers kept =
     let s : ClientState = state_of (core_of old) in
     let t : max old.time time ≡ max s.time time = ap (λ x. max x time) core.time in
     let event : Event = Begin n (max s.time time) in
     let all_lines : lines_at s.lines s.jobs event ≡ change_line n (heard_last None) begun.lines =
     ap (change_line n (λ phase. Begun [])) (sym core.lines) ∙ (sym lines ∙ sym (change_line-same n begun.lines)) in
-    let done = turn_done s event n None old.record.steps begun turned new
+    let done = turn_done s event n None [] old.record.steps begun turned new
+    (alive_core old core)
     (steps ∙ ap (λ x. old.record.steps ++ step_of (Begin n x) ∷ []) t)
+    refl
     all_lines
-    (ap (λ l. TurnOf n (next_at n l)) all_lines)
+    (λ a. ap (λ l. whole_call l n a) lines ∙ (whole_call-change n (λ phase. Begun []) old.lines n a ∙ ap (λ l. whole_call l n a) core.lines))
     (ap (λ j. j.count) jobs ∙ core.count)
     ((omega arith), may)
-    goes answers in
-    leaves old event begun new core done
+    (subst (λ (b : List ℕ). GoesOn n None b s.handles begun turned) empty (goes s.handles (subst (λ (h : Handles). Keeps h s.handles) (sym same) core.handles)))
+    answers kept in
+    leaves old event [] begun new core done
     (time_is ∙ t)
     (ap (λ j. j.held) jobs ∙ core.held)
     (ap (λ j. j.count) jobs ∙ core.count)
-    (λ o a. ap (λ l. whole_call l o a) lines ∙ (whole_call-change n (λ phase. Begun []) old.lines o a ∙ ap (λ l. whole_call l o a) core.lines))
 
 -- A job is taken: nothing is asked, and no await becomes due.
 pub take_leaves : (old new : Work) (n time from : ℕ) → IsCore old (core_of old) →
@@ -108,8 +123,9 @@ pub take_leaves : (old new : Work) (n time from : ℕ) → IsCore old (core_of o
     new.lines ≡ old.lines →
     new.jobs.count ≡ old.jobs.count →
     new.jobs.held ≡ table.with_taken n old.jobs.held →
-    Leaves (Take n (max (state_of (core_of old)).time time) from) old new
-take_leaves old new n time from core may behind time_is steps lines count held =
+    new.handles ≡ old.handles →
+    Leaves (Take n (max (state_of (core_of old)).time time) from) [] old new
+take_leaves old new n time from core may behind time_is steps lines count held same =
     let s : ClientState = state_of (core_of old) in
     let is_alive = alive_core old core in
     let t : max old.time time ≡ max s.time time = ap (λ x. max x time) core.time in
@@ -117,21 +133,22 @@ take_leaves old new n time from core may behind time_is steps lines count held =
     let job = ready_job n 1 s.jobs (numbered 1 s.jobs is_alive.numbered) may in
     let out : table.held_of (change_job n (Out from) s.jobs) ≡ table.with_taken n (table.held_of s.jobs) = held_of-out n 1 from s.jobs job.job (numbered 1 s.jobs is_alive.numbered) job.stands job.is_ready in
     let step : Step = step_of event in
-    let same_jobs : new.jobs ≡ with_asks new.lines [] new.jobs = simp (append-nil, add-zero) in
-    let done : TurnDone s event old.record.steps new new = record {
+    let done : TurnDone s event [] old.record.steps new new = record {
       step = step;
       steps = steps ∙ ap (λ x. old.record.steps ++ step_of (Take n x from) ∷ []) t;
       event_is = refl;
       legal = record { may_come = (omega arith, may, behind); drops = refl; own = []; turn = (refl, refl); replies = sym is_alive.no_due };
       lines = lines ∙ core.lines;
-      jobs = same_jobs;
+      held = sym (append-nil new.jobs.held);
+      count = sym (add-zero new.jobs.count);
       time = refl;
+      keeps = subst (λ (h : Handles). Keeps h s.handles) (sym same) core.handles;
+      gives = tt;
     } in
-    leaves old event new new core done
+    leaves old event [] new new core done
     (time_is ∙ t)
     (held ∙ (ap (table.with_taken n) core.held ∙ sym out))
     (count ∙ (core.count ∙ sym (length-change_job n (Out from) s.jobs)))
-    (λ o a. ap (λ l. whole_call l o a) (lines ∙ core.lines))
 
 -- the call that is taken is the job's
 pub taken_call : (old : Work) (n : ℕ) (called : Call) → IsCore old (core_of old) → is_among n (ready (state_of (core_of old)).jobs) ≡ true → ((h : table.Held) → table.held_at n old.jobs.held ≡ Some h → h.call ≡ Some called) → (j : Job) → job_at n (state_of (core_of old)).jobs ≡ Some j → called ≡ j.call
@@ -140,10 +157,18 @@ taken_call old n called core may calls j stands =
     let job = ready_job n 1 s.jobs (numbered 1 s.jobs (alive_core old core).numbered) may in
     let same : Some job.job ≡ Some j = sym job.stands ∙ stands in
     let is : job.job ≡ j = cc in
-    let held : table.held_at n old.jobs.held ≡ Some (record { number = n; owner = job.job.owner; call = Some job.job.call }) = ap (table.held_at n) core.held ∙ held_at-ready n s.jobs job.job job.stands job.is_ready in
-    let call : Some job.job.call ≡ Some called = calls (record { number = n; owner = job.job.owner; call = Some job.job.call }) held in
+    let held : table.held_at n old.jobs.held ≡ Some (record { number = n; line = job.job.line; call = Some job.job.call }) = ap (table.held_at n) core.held ∙ held_at-ready n s.jobs job.job job.stands job.is_ready in
+    let call : Some job.job.call ≡ Some called = calls (record { number = n; line = job.job.line; call = Some job.job.call }) held in
     let call_is : job.job.call ≡ called = cc in
     sym call_is ∙ ap (λ (x : Job). x.call) is
+
+-- the call that is taken may be made
+pub taken_may : (old : Work) (n : ℕ) (called : Call) → IsCore old (core_of old) → is_among n (ready (state_of (core_of old)).jobs) ≡ true → ((h : table.Held) → table.held_at n old.jobs.held ≡ Some h → h.call ≡ Some called) → MayBeMade called
+taken_may old n called core may calls =
+    let s : ClientState = state_of (core_of old) in
+    let job = ready_job n 1 s.jobs (numbered 1 s.jobs (alive_core old core).numbered) may in
+    let is : called ≡ job.job.call = taken_call old n called core may calls job.job job.stands in
+    subst MayBeMade (sym is) (calls_made (core_of old).script (core_of old).steps n job.job core.rising core.so_far job.stands)
 
 pub taken_ready : (old : Work) (n : ℕ) → IsCore old (core_of old) → is_among n (ready (state_of (core_of old)).jobs) ≡ true → table.IsReadyIn n old.jobs.held
 taken_ready old n core may =
@@ -154,45 +179,98 @@ taken_ready old n core may =
 pub done_out : (old : Work) (n position : ℕ) (answer : Brief) → IsCore old (core_of old) → MayDone (state_of (core_of old)) n position answer → table.IsOutIn n old.jobs.held
 done_out old n position answer core may = subst (table.IsOutIn n) (sym core.held) (is_out_in n may.from (state_of (core_of old)).jobs may.job may.stands may.is_out)
 
--- The owner of a job whose answer has come: a line that has begun, and is no await.
+-- The line of a job whose answer has come: it has begun, and is no await.
 pub record IsHeard (old : Work) (n number : ℕ) (answer : Brief) : Type 0 where
   pub begun : HasBegun number old.lines
-  pub lines : owner_hears (job_at n (state_of (core_of old)).jobs) answer (state_of (core_of old)).lines ≡ change_line number (heard answer) old.lines
-  pub turn : (l : List Standing) → turn_of_owner (job_at n (state_of (core_of old)).jobs) l ≡ TurnOf number (next_at number l)
-  pub not_idle : next_at number (change_line number (heard answer) old.lines) ≢ Waits
+  pub whose : line_of (state_of (core_of old)).jobs (Done n 0 answer) ≡ Some number
+  pub lines : hears (job_at n (state_of (core_of old)).jobs) answer (state_of (core_of old)).lines ≡ change_line number (heard answer) old.lines
+  pub not_idle : (handles : List Opened) → next_at handles number (change_line number (heard answer) old.lines) ≢ Waits
+  pub brought : (handles : List Opened) (count : ℕ) → Keeps old.handles handles → next_at handles number (change_line number (heard answer) old.lines) ≡ Gives count → answer ≡ Bytes count
 
-no_wait : (r : Request) (answers : List Brief) → r ≢ request.Await → next_of r answers ≢ Waits
-no_wait (request.Put key content) answers differs waits = absurd (let z = only_await_waits (request.Put key content) answers waits in omega arith)
-no_wait request.Await answers differs waits = differs refl
-no_wait (request.Stat path) answers differs waits = absurd (let z = only_await_waits (request.Stat path) answers waits in omega arith)
+no_wait : (handle : Option Handle) (r : Request) (answers : List Brief) → r ≢ request.Await → next_of handle r answers ≢ Waits
+no_wait handle r answers differs waits = by_request r differs (only_await_waits handle r answers waits)
+  where
+    by_request : (r : Request) → r ≢ request.Await → laws.jobs_at_once r ≡ 0 → ⊥
+    by_request (request.Put key content) differs none = omega (arith, none)
+    by_request request.Await differs none = differs refl
+    by_request (request.Stat path) differs none = omega (arith, none)
+    by_request (request.OpenRead name path) differs none = omega (arith, none)
+    by_request (request.Read name offset count) differs none = omega (arith, none)
+    by_request (request.Close name) differs none = omega (arith, none)
+    by_request (request.Delete key) differs none = omega (arith, none)
 
-next_at-heard : (n : ℕ) (lines : List Standing) (s : Standing) (answers : List Brief) (answer : Brief) → line_at n lines ≡ Some s → s.phase ≡ Begun answers → next_at n (change_line n (heard answer) lines) ≡ next_of s.line.request (answers ++ answer ∷ [])
-next_at-heard n lines s answers answer stands begun =
+next_at-heard : (handles : List Opened) (n : ℕ) (lines : List Standing) (s : Standing) (answers : List Brief) (answer : Brief) → line_at n lines ≡ Some s → s.phase ≡ Begun answers → next_at handles n (change_line n (heard answer) lines) ≡ next_of (handle_of s.line handles) s.line.request (answers ++ answer ∷ [])
+next_at-heard handles n lines s answers answer stands begun =
     let there : line_at n (change_line n (heard answer) lines) ≡ Some (record { line = s.line; phase = heard answer s.phase }) = line_at-change n (heard answer) lines s stands in
     let phase : heard answer s.phase ≡ Begun (answers ++ answer ∷ []) = ap (heard answer) begun in
     let found : line_at n (change_line n (heard answer) lines) ≡ Some (record { line = s.line; phase = Begun (answers ++ answer ∷ []) }) = there ∙ ap (λ p. Some (record { line = s.line; phase = p })) phase in
     rw found refl
 
+-- two lists that a table keeps have the same handle for a line
+kept-same : (table : Handles) (one two : List Opened) (line : Line) → Keeps table one → Keeps table two → handle_of line one ≡ handle_of line two
+kept-same table one two line first second = by_name (name_in line.request)
+  where
+    by_name : (name : Option ℕ) → handle_named line.actor name one ≡ handle_named line.actor name two
+    by_name None = refl
+    by_name (Some name) = sym (first line.actor name) ∙ second line.actor name
+
 pub is_heard : (old : Work) (n position number : ℕ) (answer : Brief) → IsCore old (core_of old) → MayDone (state_of (core_of old)) n position answer →
-    ((h : table.Held) → table.held_at n old.jobs.held ≡ Some h → owner.Line number ≡ h.owner) → IsHeard old n number answer
+    ((h : table.Held) → table.held_at n old.jobs.held ≡ Some h → number ≡ h.line) → IsHeard old n number answer
 is_heard old n position number answer core may owns =
     let s : ClientState = state_of (core_of old) in
     let is_alive = alive_core old core in
-    let held : table.held_at n old.jobs.held ≡ Some (record { number = n; owner = may.job.owner; call = None }) = ap (table.held_at n) core.held ∙ held_at-out n may.from s.jobs may.job may.stands may.is_out in
-    let own : may.job.owner ≡ owner.Line number = sym (owns (record { number = n; owner = may.job.owner; call = None }) held) in
-    let at = served s n may.job is_alive may.stands (λ gone. absurd (let e : Out may.from ≡ Gone = sym may.is_out ∙ gone in cc)) in
-    let same : owner.Line at.number ≡ owner.Line number = sym at.owned ∙ own in
-    let number_is : at.number ≡ number = cc in
-    let stands : line_at number old.lines ≡ Some at.standing = ap (line_at number) core.lines ∙ subst (λ k. line_at k s.lines ≡ Some at.standing) number_is at.stands in
+    let held : table.held_at n old.jobs.held ≡ Some (record { number = n; line = may.job.line; call = None }) = ap (table.held_at n) core.held ∙ held_at-out n may.from s.jobs may.job may.stands may.is_out in
+    let own : may.job.line ≡ number = sym (owns (record { number = n; line = may.job.line; call = None }) held) in
+    let live : may.job.phase ≢ Gone = λ gone. absurd (let e : Out may.from ≡ Gone = sym may.is_out ∙ gone in cc) in
+    let at = served s n may.job is_alive may.stands live in
+    let stands : line_at number old.lines ≡ Some at.standing = ap (line_at number) core.lines ∙ subst (λ k. line_at k s.lines ≡ Some at.standing) own at.stands in
+    let line = at.standing.line in
+    let makes : next_at s.handles may.job.line s.lines ≡ Asks may.job.call = job_makes_call (core_of old).script (core_of old).steps n may.job core.rising core.so_far may.stands live in
+    let asks : next_of (handle_of line s.handles) line.request at.answers ≡ Asks may.job.call = sym (next_at-begun s.handles may.job.line s.lines at.standing at.answers at.stands at.begun) ∙ makes in
     record {
       begun = record { standing = at.standing; stands = stands; answers = at.answers; phase = at.begun };
-      lines = hears-is (job_at n s.jobs) may.job number answer s.lines may.stands own ∙ ap (change_line number (heard answer)) (sym core.lines);
-      turn = λ l. turn-is (job_at n s.jobs) may.job number l may.stands own;
-      not_idle = λ waits. no_wait at.standing.line.request (at.answers ++ answer ∷ []) at.no_await (sym (next_at-heard number old.lines at.standing at.answers answer stands at.begun) ∙ waits);
+      whose = line-is (job_at n s.jobs) may.job may.stands ∙ ap Some own;
+      lines = hears-is (job_at n s.jobs) may.job answer s.lines may.stands ∙ (ap (λ k. change_line k (heard answer) s.lines) own ∙ ap (change_line number (heard answer)) (sym core.lines));
+      not_idle = λ handles waits. no_wait (handle_of line handles) line.request (at.answers ++ answer ∷ []) at.no_await (sym (next_at-heard handles number old.lines at.standing at.answers answer stands at.begun) ∙ waits);
+      brought = λ handles count keeps gives.
+          let same : handle_of line handles ≡ handle_of line s.handles = kept-same old.handles handles s.handles line keeps core.handles in
+          let behind : next_of (handle_of line s.handles) line.request (at.answers ++ answer ∷ []) ≡ Gives count = ap (λ (h : Option Handle). next_of h line.request (at.answers ++ answer ∷ [])) (sym same) ∙ (sym (next_at-heard handles number old.lines at.standing at.answers answer stands at.begun) ∙ gives) in
+          gives_brought (handle_of line s.handles) line.request at.answers may.job.call answer count asks behind;
     }
 
+-- the bytes of an answer are as many as its brief says
+pub brought_long : (answer : Answer) (count : ℕ) → brief_of answer ≡ Bytes count → length (bytes_in answer) ≡ count
+brought_long (full.Bytes bytes) count is = cc
+brought_long (full.Found etag size) count is = absurd (cc)
+brought_long full.Missing count is = absurd (cc)
+brought_long full.Yes count is = absurd (cc)
+brought_long full.No count is = absurd (cc)
+brought_long full.Changed count is = absurd (cc)
+brought_long full.Gone count is = absurd (cc)
+brought_long (full.Made etag) count is = absurd (cc)
+brought_long full.Fault count is = absurd (cc)
+brought_long full.NoMemory count is = absurd (cc)
+
+-- the line goes on with what is due of it behind the answer
+pub may_go_on : (old ended : Work) (n number : ℕ) (answer : Answer) (due : Due) (told : Brief) (bytes : List ℕ) (handles : List Opened) → IsHeard old n number (brief_of answer) → ended.lines ≡ old.lines → told ≡ brief_of answer → bytes ≡ bytes_in answer → Keeps old.handles handles →
+    DueMeans due (owner_at handles number (change_line number (heard_last (Some told)) ended.lines)) (next_at handles number (change_line number (heard_last (Some told)) ended.lines)) →
+    MayGoOn number due (Some told) bytes handles ended.lines
+may_go_on old ended n number answer due told bytes handles is_heard same brief is keeps means =
+    let next : next_at handles number (change_line number (heard_last (Some told)) ended.lines) ≡ next_at handles number (change_line number (heard (brief_of answer)) old.lines) = ap (λ (b : Brief). next_at handles number (change_line number (heard b) ended.lines)) brief ∙ ap (λ (l : List Standing). next_at handles number (change_line number (heard (brief_of answer)) l)) same in
+    record {
+      means = means;
+      not_idle = inr (λ waits. is_heard.not_idle handles (sym next ∙ waits));
+      gives = λ count gives. ap length is ∙ brought_long answer count (is_heard.brought handles count keeps (sym next ∙ gives));
+    }
+
+pub goes_on_as : (n : ℕ) (told answer : Brief) (bytes brought : List ℕ) (begun turned : Work) → told ≡ answer → bytes ≡ brought →
+    ((handles : List Opened) → Keeps begun.handles handles → GoesOn n (Some told) bytes handles begun turned) →
+    (handles : List Opened) → Keeps begun.handles handles → GoesOn n (Some answer) brought handles begun turned
+goes_on_as n told answer bytes brought begun turned brief is goes handles keeps =
+    subst (λ (b : List ℕ). GoesOn n (Some answer) b handles begun turned) is (subst (λ (a : Brief). GoesOn n (Some a) bytes handles begun turned) brief (goes handles keeps))
+
 -- A job's answer has come.
-pub done_leaves : (old begun turned new : Work) (n position number : ℕ) (answer : Brief) → IsCore old (core_of old) →
+pub done_leaves : (old begun turned new : Work) (n position number : ℕ) (answer : Brief) (bytes : List ℕ) → IsCore old (core_of old) →
     MayDone (state_of (core_of old)) n position answer →
     IsHeard old n number answer →
     begun.time ≡ old.time →
@@ -200,25 +278,30 @@ pub done_leaves : (old begun turned new : Work) (n position number : ℕ) (answe
     begun.lines ≡ old.lines →
     begun.jobs.count ≡ old.jobs.count →
     begun.jobs.held ≡ table.without n old.jobs.held →
-    GoesOn number (Some answer) (next_at number (change_line number (heard_last (Some answer)) begun.lines)) begun turned →
+    begun.handles ≡ old.handles →
+    ((handles : List Opened) → Keeps begun.handles handles → GoesOn number (Some answer) bytes handles begun turned) →
     Answers (due_awaits turned.lines) turned new →
-    Leaves (Done n position answer) old new
-done_leaves old begun turned new n position number answer core may is_heard time_is steps lines count held goes answers =
+    new.handles ≡ turned.handles →
+    Leaves (Done n position answer) bytes old new
+done_leaves old begun turned new n position number answer bytes core may is_heard time_is steps lines count held same goes answers kept =
     let s : ClientState = state_of (core_of old) in
     let event : Event = Done n position answer in
     let gone : table.held_of (change_job n Gone s.jobs) ≡ table.without n (table.held_of s.jobs) = held_of-gone n 1 s.jobs (numbered 1 s.jobs (alive_core old core).numbered) in
     let all_lines : lines_at s.lines s.jobs event ≡ change_line number (heard_last (Some answer)) begun.lines = is_heard.lines ∙ ap (change_line number (heard answer)) (sym lines) in
-    let done = turn_done s event number (Some answer) old.record.steps begun turned new
+    let done = turn_done s event number (Some answer) bytes old.record.steps begun turned new
+    (alive_core old core)
     steps
+    is_heard.whose
     all_lines
-    (is_heard.turn (lines_at s.lines s.jobs event) ∙ ap (λ l. TurnOf number (next_at number l)) all_lines)
+    (λ a. ap (λ l. whole_call l number a) (lines ∙ core.lines))
     (count ∙ core.count)
-    may goes answers in
-    leaves old event begun new core done
+    may
+    (goes s.handles (subst (λ (h : Handles). Keeps h s.handles) (sym same) core.handles))
+    answers kept in
+    leaves old event bytes begun new core done
     (time_is ∙ core.time)
     (held ∙ (ap (table.without n) core.held ∙ sym gone))
     (count ∙ (core.count ∙ sym (length-change_job n Gone s.jobs)))
-    (λ o a. ap (λ l. whole_call l o a) (lines ∙ core.lines))
 
 -- a line that may begin has begun behind its begin
 pub begun_behind : (old begun : Work) (n : ℕ) → IsCore old (core_of old) → is_among n (startable (state_of (core_of old)).lines) ≡ true → begun.lines ≡ change_line n (λ phase. Begun []) old.lines → HasBegun n begun.lines
@@ -233,11 +316,20 @@ begun_behind old begun n core may lines =
       phase = refl;
     }
 
+-- what a line gives in the step of its begin is empty
+pub begun_gives : (old begun : Work) (n : ℕ) (bytes : List ℕ) (handles : List Opened) → IsCore old (core_of old) → is_among n (startable (state_of (core_of old)).lines) ≡ true → begun.lines ≡ change_line n (λ phase. Begun []) old.lines → bytes ≡ [] → (count : ℕ) → next_at handles n (change_line n (heard_last None) begun.lines) ≡ Gives count → length bytes ≡ count
+unfolding begun_behind
+begun_gives old begun n bytes handles core may lines empty count gives =
+    let now = begun_behind old begun n core may lines in
+    let line = now.standing.line in
+    let next : next_of (handle_of line handles) line.request [] ≡ Gives count = sym (next_at-begun handles n begun.lines now.standing [] now.stands now.phase) ∙ (sym (ap (next_at handles n) (change_line-same n begun.lines)) ∙ gives) in
+    ap length empty ∙ sym (gives_none (handle_of line handles) line.request count next)
+
 pub begun_same : (n : ℕ) (old new : List Standing) → new ≡ old → HasBegun n old → HasBegun n new
 begun_same n old new same begun = subst (HasBegun n) (sym same) begun
 
-pub has_step_turned : (n : ℕ) (last : Option Brief) (next : Next) (begun turned : Work) → GoesOn n last next begun turned → MayAsk begun.record.steps → HasStep turned.record.steps
-has_step_turned n last next begun turned goes may = subst HasStep (sym goes.steps) (HasStep-change_last (with_turn goes.asks goes.own) begun.record.steps (HasStep-asking begun.record.steps may))
+pub has_step_turned : (n : ℕ) (last : Option Brief) (bytes : List ℕ) (handles : List Opened) (begun turned : Work) → GoesOn n last bytes handles begun turned → MayAsk begun.record.steps → HasStep turned.record.steps
+has_step_turned n last bytes handles begun turned goes may = subst HasStep (sym goes.steps) (HasStep-change_last (with_turn goes.asks goes.own) begun.record.steps (HasStep-asking begun.record.steps may))
 
 -- quiet means that each line has its reply and no job is held
 pub quiet_core : (work : Work) → IsCore work (core_of work) → AllByRecursion (λ (s : Standing). s.phase ≡ Replied) work.lines → (work.jobs.held ≡ []) ↔ IsQuiet (state_of (core_of work))
@@ -251,8 +343,8 @@ quiet_core work core answered =
     )
 
 -- a core that has done nothing
-pub core_new : (script : List Line) (work : Work) → AreRising 0 script → work.lines ≡ (opening script).lines → work.record.steps ≡ [] → work.time ≡ 0 → work.jobs.held ≡ [] → work.jobs.count ≡ 0 → IsCore work (core_of work)
-core_new script work rising lines steps time held count =
+pub core_new : (script : List Line) (work : Work) → AreRising 0 script → work.lines ≡ (opening script).lines → work.record.steps ≡ [] → work.time ≡ 0 → work.jobs.held ≡ [] → work.jobs.count ≡ 0 → Keeps work.handles [] → IsCore work (core_of work)
+core_new script work rising lines steps time held count keeps =
     let said : map (λ s. s.line) work.lines ≡ script = ap (map (λ s. s.line)) lines ∙ lines-opening script in
     let state : state_of (core_of work) ≡ opening script = ap (λ w. state_after w work.record.steps) said ∙ ap (state_after script) steps in
     record {
@@ -262,8 +354,5 @@ core_new script work rising lines steps time held count =
       lines = lines ∙ ap (λ (s : ClientState). s.lines) (sym state);
       held = held ∙ ap (λ (s : ClientState). table.held_of s.jobs) (sym state);
       count = count ∙ ap (λ (s : ClientState). length s.jobs) (sym state);
+      handles = subst (Keeps work.handles) (ap (λ (s : ClientState). s.handles) (sym state)) keeps;
     }
-
--- the line that heard its answer does not wait for others
-pub still_busy : (n : ℕ) (answer told : Brief) (old new : List Standing) → told ≡ answer → new ≡ old → next_at n (change_line n (heard answer) old) ≢ Waits → next_at n (change_line n (heard_last (Some told)) new) ≢ Waits
-still_busy n answer told old new same lines busy = λ waits. busy (sym (ap (λ l. next_at n (change_line n (heard answer) l)) lines) ∙ (sym (ap (λ b. next_at n (change_line n (heard b) new)) same) ∙ waits))

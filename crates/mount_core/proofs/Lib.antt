@@ -10,3 +10,4 @@ pub mod Turns
 pub mod Hearing
 pub mod Places
 pub mod Known
+pub mod Named

@@ -1,13 +1,32 @@
 -- What is due of a line, as code holds it.
-use Rattle.std.specs.Prelude.{◌≡◌}
-use Rattle.bucket_model.specs.declared.call.Call.{Call}
-use Rattle.mount_model.specs.Conversation.{Next, Asks, Replies, Waits}
+use Rattle.std.specs.Prelude.{◌≡◌, ℕ}
+use Rattle.mount_model.specs.declared.event.Owner.{Owner}
+use Rattle.mount_model.specs.Conversation.{Next, Asks, Replies, Opens, Gives, Waits}
 use Rattle.mount_model.specs.Run.{asked_of}
 use Rattle.mount_core.specs.declared.due.Due.{Due}
 use Rattle.mount_core.specs.declared.due.Due.TheVariants as due
 
-abbrev pub DueMeans : Due → Next → Type 0
-DueMeans (due.Call call asked) next = (next ≡ Asks call) × (asked ≡ asked_of call)
-DueMeans (due.Reply reply) next = next ≡ Replies reply
-DueMeans due.Nothing next = next ≡ Waits
-DueMeans due.NoMemory next = (call : Call) × (next ≡ Asks call)
+-- what may find no memory: a call, and a handle
+abbrev pub MayLack : Next → Type 0
+MayLack (Asks called) = Unit {0}
+MayLack (Opens version) = Unit {0}
+MayLack (Replies said) = ⊥
+MayLack (Gives count) = ⊥
+MayLack Waits = ⊥
+
+abbrev pub DueMeans : Due → Owner → Next → Type 0
+DueMeans (due.Call owner call asked) expected next = (next ≡ Asks call) × (owner ≡ expected)
+DueMeans (due.Reply said) expected next = next ≡ Replies said
+DueMeans (due.Open version) expected next = next ≡ Opens version
+DueMeans due.Data expected next = (count : ℕ) × (next ≡ Gives count)
+DueMeans due.Nothing expected next = next ≡ Waits
+DueMeans due.NoMemory expected next = MayLack next
+
+-- the record tells the call that is made
+abbrev pub DueTells : Due → Type 0
+DueTells (due.Call owner call asked) = asked ≡ asked_of call
+DueTells (due.Reply said) = Unit {0}
+DueTells (due.Open version) = Unit {0}
+DueTells due.Data = Unit {0}
+DueTells due.Nothing = Unit {0}
+DueTells due.NoMemory = Unit {0}

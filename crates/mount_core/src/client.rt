@@ -1,15 +1,15 @@
-ghost use Rattle.std.specs.Prelude.{◌≡◌, ◌<◌, List, [], ◌↔◌, true, max, IfOk, IsTrue, Some, slice_get, option_copied};
+ghost use Rattle.std.specs.Prelude.{◌≡◌, ◌<◌, List, [], ◌↔◌, true, max, IfOk, IsTrue, Some, length, slice_get, option_copied};
 ghost use Rattle.std.specs.List.{AllByRecursion};
-ghost use Rattle.bucket_model.specs.Answers.{brief_of};
+ghost use Rattle.bucket_model.specs.Answers.{MayBeMade, brief_of, bytes_in};
 ghost use Rattle.mount_model.specs.declared.event.Event.TheVariants.{Begin, Take, Done};
-ghost use Rattle.mount_model.specs.declared.event.Owner.TheVariants.{Line};
 ghost use Rattle.mount_model.specs.State.{Job, job_at};
 ghost use Rattle.mount_model.specs.Replies.{reply_to};
 ghost use Rattle.mount_model.specs.Run.{AreRising, IsRunSoFar, IsQuiet, MayDone, is_among, ready, startable};
 
 use crate::work::Work;
 use bucket_model::{Answer, Call};
-use mount_model::{Owner, Record, Reply, Script};
+use bytes::Bytes;
+use mount_model::{Record, Reply, Script};
 use std::alloc::{AllocError, Global};
 use std::marker::Model;
 
@@ -29,12 +29,13 @@ impl Model for Core {
     ghost invariant = { λ c. IsCore c.work (core_of c.work) };
 }
 
-// The line that a job belongs to.
-fn owning_line(owner: Owner) -> u32
-    ensures { owner ≡ Line result }
+// The bytes that an answer brings, or none.
+fn bytes_of(answer: Answer) -> Bytes
+    ensures { result ≡ bytes_in answer }
 {
-    match owner {
-        Owner::Line(line) => line,
+    match answer {
+        Answer::Bytes(bytes) => bytes,
+        _ => Bytes::new(),
     }
 }
 
@@ -78,11 +79,11 @@ impl Core {
     /// A line begins. Times that fall are read as the greatest so far.
     pub fn begin(&mut self, line: u32, time: u64)
         requires { is_among line (startable (state_of self.old).lines) ≡ true }
-        ensures { Advances (Begin line (max (state_of self.old).time time)) self.old self.new }
+        ensures { Advances (Begin line (max (state_of self.old).time time)) [] self.old self.new }
     {
         self.work.begin_line(line, time);
         let due = self.work.due(line, None);
-        self.work.go_on(line, due, None);
+        self.work.go_on(line, due, None, Bytes::new());
         self.work.answer_awaits();
     }
 
@@ -91,21 +92,22 @@ impl Core {
         requires ready { is_among job (ready (state_of self.old).jobs) ≡ true }
         requires behind { AllByRecursion (λ position. position < from) (state_of self.old).positions }
         ensures call { (j : Job) → job_at job (state_of self.old).jobs ≡ Some j → result ≡ j.call }
-        ensures step { Advances (Take job (max (state_of self.old).time time) from) self.old self.new }
+        ensures may { MayBeMade result }
+        ensures step { Advances (Take job (max (state_of self.old).time time) from) [] self.old self.new }
     {
         self.work.take_job(job, time, from)
     }
 
-    /// The answer of a job that is out has come; its entry stands at this position.
+    /// The answer of a job that is out has come; its entry stands at this position. The bytes that it brings are
+    /// those that the line's reply gives, and are not copied.
     pub fn done(&mut self, job: u64, position: u64, answer: Answer)
         requires { MayDone (state_of self.old) job position (brief_of answer) }
-        ensures { Advances (Done job position (brief_of answer)) self.old self.new }
+        ensures { Advances (Done job position (brief_of answer)) (bytes_in answer) self.old self.new }
     {
         let brief = answer.brief();
-        let owner = self.work.end_job(job, position, answer.brief());
-        let line = owning_line(owner);
+        let line = self.work.end_job(job, position, answer.brief());
         let due = self.work.due(line, Some(&brief));
-        self.work.go_on(line, due, Some(brief));
+        self.work.go_on(line, due, Some(brief), bytes_of(answer));
         self.work.answer_awaits();
     }
 
@@ -130,5 +132,20 @@ impl Core {
         ensures { option_copied result ≡ reply_to line self.now.steps }
     {
         self.work.record.reply_to(line)
+    }
+
+    /// How many jobs may be taken.
+    pub fn ready_len(&self) -> usize
+        ensures { result ≡ length (ready (state_of self.now).jobs) }
+    {
+        self.work.jobs.ready_len()
+    }
+
+    /// How many lines may begin.
+    pub fn startable_len(&self) -> usize
+        ensures value { result ≡ length (startable (state_of self.now).lines) }
+        ensures rising { AreRising 0 self.now.script }
+    {
+        self.work.lines.startable_len()
     }
 }

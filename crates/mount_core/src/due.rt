@@ -1,25 +1,34 @@
 ghost use Rattle.std.specs.Prelude.{◌≡◌, ◌<◌, ◌≤◌, ◌++◌, length, IfOk, option_to_list, option_copied};
 ghost use Rattle.mp_types.specs.Content.{bytes_of};
-ghost use Rattle.bucket_model.specs.declared.call.Call.TheVariants.{Head, Probe, Put};
-ghost use Rattle.mount_model.specs.Conversation.{Asks, next_of};
-ghost use Rattle.mount_core.specs.Due.{DueMeans};
+ghost use Rattle.bucket_model.specs.declared.call.Call.TheVariants.{Delete, Get, Head, Probe, Put};
+ghost use Rattle.mount_model.specs.Conversation.{Asks, Opens, next_of};
+ghost use Rattle.mount_model.specs.Handles.{owner_for};
+ghost use Rattle.mount_core.specs.Due.{DueMeans, DueTells};
 
 use bucket_model::{Brief, Call};
 use bytes::Bytes;
-use mount_model::{AskedCall, Reply, Request};
+use mount_model::{AskedCall, Handle, Owner, Reply, Request, Version};
 use mount_plan::{Plan, plan};
-use mp_types::{Data, Key, KeyFault};
+use mp_types::{Data, ETag, Key, KeyFault};
 use std::alloc::{AllocError, Global};
 
 /// What is due of a line, with all the memory that it takes.
 #[derive(Drop)]
 pub enum Due {
-    /// A call, and how the record tells it.
-    Call { call: Call, asked: AskedCall },
+    /// A call, whose job it is, and how the record tells it.
+    Call {
+        owner: Owner,
+        call: Call,
+        asked: AskedCall,
+    },
     Reply(Reply),
+    /// A handle on this version.
+    Open(Version),
+    /// The bytes that the last answer brought, or none.
+    Data,
     /// It waits for other lines.
     Nothing,
-    /// A call is due, and there is no memory for it.
+    /// A call or a handle is due, and there is no memory for it.
     NoMemory,
 }
 
@@ -46,13 +55,15 @@ fn two_keys(alloc: Global, text: &str) -> Result<(Key, Key), AllocError>
     Ok((key, copied))
 }
 
-fn probe(alloc: Global, text: &str) -> Due
+fn probe(alloc: Global, owner: Owner, text: &str) -> Due
     requires not_empty { 0 < length text.now }
     requires short { length text.now ≤ 1024 }
-    ensures { DueMeans result (Asks (Probe text.now)) }
+    ensures means { DueMeans result owner (Asks (Probe text.now)) }
+    ensures tells { DueTells result }
 {
     match two_keys(alloc, text) {
         Ok((key, told)) => Due::Call {
+            owner,
             call: Call::Probe { key },
             asked: AskedCall::Probe { key: told },
         },
@@ -60,15 +71,61 @@ fn probe(alloc: Global, text: &str) -> Due
     }
 }
 
-fn head(alloc: Global, text: &str) -> Due
+fn head(alloc: Global, owner: Owner, text: &str) -> Due
     requires not_empty { 0 < length text.now }
     requires short { length text.now ≤ 1024 }
-    ensures { DueMeans result (Asks (Head text.now)) }
+    ensures means { DueMeans result owner (Asks (Head text.now)) }
+    ensures tells { DueTells result }
 {
     match two_keys(alloc, text) {
         Ok((key, told)) => Due::Call {
+            owner,
             call: Call::Head { key },
             asked: AskedCall::Head { key: told },
+        },
+        Err(_) => Due::NoMemory,
+    }
+}
+
+fn copy_twice(alloc: Global, key: &Key) -> Result<(Key, Key), AllocError>
+    ensures { IfOk result (λ keys. (keys.0 ≡ key.now) × (keys.1 ≡ key.now)) }
+{
+    Ok((key.copy(alloc)?, key.copy(alloc)?))
+}
+
+fn get(alloc: Global, owner: Owner, version: &Version, from: u64, to: u64) -> Due
+    ensures means { DueMeans result owner (Asks (Get version.now.key version.now.etag from to)) }
+    ensures tells { DueTells result }
+{
+    match copy_twice(alloc, &version.key) {
+        Ok((key, told)) => Due::Call {
+            owner,
+            call: Call::Get {
+                key,
+                etag: version.etag.copy(),
+                from,
+                to,
+            },
+            asked: AskedCall::Get {
+                key: told,
+                etag: version.etag.copy(),
+                from,
+                to,
+            },
+        },
+        Err(_) => Due::NoMemory,
+    }
+}
+
+fn delete(alloc: Global, owner: Owner, key: &Key) -> Due
+    ensures means { DueMeans result owner (Asks (Delete key.now)) }
+    ensures tells { DueTells result }
+{
+    match copy_twice(alloc, key) {
+        Ok((key, told)) => Due::Call {
+            owner,
+            call: Call::Delete { key },
+            asked: AskedCall::Delete { key: told },
         },
         Err(_) => Due::NoMemory,
     }
@@ -86,19 +143,20 @@ fn stored(alloc: Global, content: &Data) -> Result<Bytes, AllocError>
 fn put_parts(alloc: Global, key: &Key, content: &Data) -> Result<(Key, Key, Bytes), AllocError>
     ensures { IfOk result (λ parts. (parts.0 ≡ key.now) × (parts.1 ≡ key.now) × (parts.2 ≡ bytes_of content.now)) }
 {
-    let sent = key.copy(alloc)?;
-    let told = key.copy(alloc)?;
+    let (sent, told) = copy_twice(alloc, key)?;
     let bytes = stored(alloc, content)?;
     Ok((sent, told, bytes))
 }
 
-fn put(alloc: Global, key: &Key, content: &Data) -> Due
-    ensures { DueMeans result (Asks (Put key.now (bytes_of content.now))) }
+fn put(alloc: Global, owner: Owner, key: &Key, content: &Data) -> Due
+    ensures means { DueMeans result owner (Asks (Put key.now (bytes_of content.now))) }
+    ensures tells { DueTells result }
 {
     match put_parts(alloc, key, content) {
         Ok((key, told, bytes)) => {
             let length = bytes.len() as u64;
             Due::Call {
+                owner,
                 call: Call::Put { key, bytes },
                 asked: AskedCall::Put { key: told, length },
             }
@@ -107,14 +165,53 @@ fn put(alloc: Global, key: &Key, content: &Data) -> Due
     }
 }
 
-/// What is due of a line by its request and the answers that its own calls got, the last one apart.
-pub fn due_of(alloc: Global, request: &Request, answers: &[Brief], last: Option<&Brief>) -> Due
-    ensures { DueMeans result (next_of request.now (answers.now ++ option_to_list (option_copied last.entry))) }
+fn open(alloc: Global, owner: Owner, text: &str, etag: ETag, size: u64) -> Due
+    requires not_empty { 0 < length text.now }
+    requires short { length text.now ≤ 1024 }
+    ensures means { DueMeans result owner (Opens (record { key = text.now; etag = etag; size = size })) }
+    ensures tells { DueTells result }
 {
-    match plan(request, answers, last) {
-        Plan::Probe(key) => probe(alloc, key),
-        Plan::Head(key) => head(alloc, key),
-        Plan::Put { key, content } => put(alloc, key, content),
+    match key_of(alloc, text) {
+        Ok(key) => Due::Open(Version { key, etag, size }),
+        Err(_) => Due::NoMemory,
+    }
+}
+
+// Whose jobs the line asks for: a read asks for the stream of its handle.
+fn owner_of(line: u32, request: &Request, handle: Option<&Handle>) -> Owner
+    ensures { result ≡ owner_for line request.now (option_copied handle.entry) }
+{
+    match request {
+        Request::Read { .. } => match handle {
+            Some(handle) => Owner::Stream(handle.line),
+            None => Owner::Line(line),
+        },
+        _ => Owner::Line(line),
+    }
+}
+
+/// What is due of a line by its request, the live handle that it names, and the answers that its own calls got,
+/// the last one apart.
+pub fn due_of(
+    alloc: Global,
+    line: u32,
+    handle: Option<&Handle>,
+    request: &Request,
+    answers: &[Brief],
+    last: Option<&Brief>,
+) -> Due
+    ensures means { DueMeans result (owner_for line request.now (option_copied handle.entry)) (next_of (option_copied handle.entry) request.now (answers.now ++ option_to_list (option_copied last.entry))) }
+    ensures tells { DueTells result }
+{
+    let owner = owner_of(line, request, handle);
+    match plan(handle, request, answers, last) {
+        Plan::Probe(key) => probe(alloc, owner, key),
+        Plan::Head(key) => head(alloc, owner, key),
+        Plan::Get { version, from, to } => get(alloc, owner, version, from, to),
+        Plan::Delete(key) => delete(alloc, owner, key),
+        Plan::Put { key, content } => put(alloc, owner, key, content),
+        Plan::Open { key, etag, size } => open(alloc, owner, key, etag, size),
+        Plan::Give { .. } => Due::Data,
         Plan::Reply(reply) => Due::Reply(reply),
         Plan::Wait => Due::Nothing,
     }

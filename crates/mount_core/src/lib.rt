@@ -4,6 +4,7 @@
 
 mod client;
 mod due;
+mod handles;
 mod journal;
 mod turn;
 mod work;

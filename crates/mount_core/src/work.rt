@@ -2,22 +2,24 @@ ghost use Rattle.std.specs.Prelude.{◌≡◌, ◌≢◌, ◌+◌, ◌<◌, ◌�
 ghost use Rattle.mount_model.specs.declared.event.Event.TheVariants.{Begin, Take, Done};
 ghost use Rattle.mount_model.specs.declared.standing.Phase.TheVariants.{Begun};
 ghost use Rattle.mount_model.specs.Step.{step_of, HasStep};
-ghost use Rattle.mount_model.specs.State.{opening, change_line};
-ghost use Rattle.mount_model.specs.Conversation.{Next};
-ghost use Rattle.mount_model.specs.Run.{AreRising, startable, is_among, next_at};
+ghost use Rattle.mount_model.specs.State.{opening, change_line, next_at};
+ghost use Rattle.mount_model.specs.Run.{AreRising, startable, is_among, owner_at};
+ghost use Rattle.mount_model.specs.Handles.{Opened};
 ghost use Rattle.line_table.specs.Table.{HasBegun};
 ghost use Rattle.job_table.specs.LiveJobs.{Held, held_at, with_taken, without, IsReadyIn, IsOutIn};
-ghost use Rattle.mount_core.specs.Due.{DueMeans};
+ghost use Rattle.mount_core.specs.Due.{DueMeans, DueTells};
+ghost use Rattle.mount_core.specs.Handles.{Keeps};
 ghost use Rattle.mount_core.specs.Journal.{all_known};
 ghost use Rattle.mount_core.specs.Rising.{AreRising-prop};
 ghost use Rattle.mount_core.specs.Room.{owes_lines, owes_jobs};
 
 use crate::due::{Due, due_of};
+use crate::handles::Handles;
 use crate::journal::Journal;
 use bucket_model::{Brief, Call};
 use job_table::Jobs;
 use line_table::Lines;
-use mount_model::{Answered, Event, Owner, Phase, Reply, Script};
+use mount_model::{Answered, Event, Phase, Reply, Script};
 use std::alloc::{AllocError, Global};
 
 /// The parts of the mount. The record has room for all that lines and jobs still owe it, and a place for the reply
@@ -27,6 +29,7 @@ pub struct Work {
     pub lines: Lines,
     pub jobs: Jobs,
     pub record: Journal,
+    pub handles: Handles,
     pub time: u64,
     /// How many items lines and jobs still owe the record.
     pub owed: usize,
@@ -47,6 +50,7 @@ impl Work {
         ensures jobs { IfOk result (λ work. (work.jobs.count ≡ 0) × (work.jobs.held ≡ [])) }
         ensures steps { IfOk result (λ work. work.record.steps ≡ []) }
         ensures time { IfOk result (λ work. work.time ≡ 0) }
+        ensures handles { IfOk result (λ work. Keeps work.handles []) }
     {
         let Some(owed) = script.len().checked_mul(2) else {
             return Err(AllocError);
@@ -58,6 +62,7 @@ impl Work {
             lines,
             jobs: Jobs::new(alloc),
             record,
+            handles: Handles::new(alloc),
             time: 0,
             owed,
             alloc,
@@ -71,6 +76,7 @@ impl Work {
         ensures steps { self.new.record.steps ≡ self.old.record.steps ++ step_of (Begin line (max self.old.time time)) ∷ [] }
         ensures lines { self.new.lines ≡ change_line line (λ phase. Begun []) self.old.lines }
         ensures jobs { self.new.jobs ≡ self.old.jobs }
+        ensures handles { self.new.handles ≡ self.old.handles }
     {
         let time = self.time.max(time);
         self.time = time;
@@ -88,6 +94,7 @@ impl Work {
         ensures lines { self.new.lines ≡ self.old.lines }
         ensures count { self.new.jobs.count ≡ self.old.jobs.count }
         ensures held { self.new.jobs.held ≡ with_taken job self.old.jobs.held }
+        ensures handles { self.new.handles ≡ self.old.handles }
     {
         let time = self.time.max(time);
         self.time = time;
@@ -97,31 +104,33 @@ impl Work {
         call
     }
 
-    /// The step of a job's end begins.
-    pub fn end_job(&mut self, job: u64, position: u64, answer: Brief) -> Owner
+    /// The step of a job's end begins, and the turn of the line that asked for it.
+    pub fn end_job(&mut self, job: u64, position: u64, answer: Brief) -> u32
         requires { IsOutIn job self.old.jobs.held }
-        ensures owner { (h : Held) → held_at job self.old.jobs.held ≡ Some h → result ≡ h.owner }
+        ensures line { (h : Held) → held_at job self.old.jobs.held ≡ Some h → result ≡ h.line }
         ensures time { self.new.time ≡ self.old.time }
         ensures steps { self.new.record.steps ≡ self.old.record.steps ++ step_of (Done job position answer) ∷ [] }
         ensures lines { self.new.lines ≡ self.old.lines }
         ensures count { self.new.jobs.count ≡ self.old.jobs.count }
         ensures held { self.new.jobs.held ≡ without job self.old.jobs.held }
+        ensures handles { self.new.handles ≡ self.old.handles }
     {
         self.record.event(Event::Done {
             job,
             position,
             answer,
         });
-        let owner = self.jobs.done(job);
+        let line = self.jobs.done(job);
         self.owed -= 1;
-        owner
+        line
     }
 
     /// A line gets its reply in the last step.
     pub fn reply_line(&mut self, line: u32, reply: Reply)
         requires begun { HasBegun line self.old.lines }
         requires step { HasStep self.old.record.steps }
-        ensures { Answers (record { line = line; reply = reply } ∷ []) self.old self.new }
+        ensures answers { Answers (record { line = line; reply = reply } ∷ []) self.old self.new }
+        ensures handles { self.new.handles ≡ self.old.handles }
     {
         self.record.reply(Answered { line, reply });
         self.lines.reply(line);
@@ -131,7 +140,8 @@ impl Work {
     /// What is due of a line that has begun, behind the answers so far and this last one.
     pub fn due(&self, line: u32, last: Option<&Brief>) -> Due
         requires { HasBegun line self.now.lines }
-        ensures { DueMeans result (next_at line (change_line line (heard_last (option_copied last.entry)) self.now.lines)) }
+        ensures means { (handles : List Opened) → Keeps self.now.handles handles → DueMeans result (owner_at handles line (change_line line (heard_last (option_copied last.entry)) self.now.lines)) (next_at handles line (change_line line (heard_last (option_copied last.entry)) self.now.lines)) }
+        ensures tells { DueTells result }
     {
         let Some(standing) = self.lines.standing(line) else {
             unreachable!()
@@ -139,6 +149,8 @@ impl Work {
         match &standing.phase {
             Phase::Begun(answers) => due_of(
                 self.alloc,
+                line,
+                self.handles.named(&standing.line),
                 &standing.line.request,
                 answers.as_slice(),
                 last,

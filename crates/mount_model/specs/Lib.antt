@@ -1,4 +1,6 @@
 pub mod Conversation
+pub mod Handles
+pub mod Reads
 pub mod RecordText
 pub mod Replies
 pub mod Run

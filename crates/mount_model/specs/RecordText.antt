@@ -1,5 +1,6 @@
 -- The text of a record.
 use Rattle.std.specs.Prelude.{ℕ, ◌+◌, ◌/◌, ◌%◌, List, [], ◌∷◌, ◌++◌, flat_map, Bool, not, ◌&&◌, ◌==◌, nat_le, nat_lt, if◌then◌else◌, codes, decimal}
+use Rattle.hex.specs.Hex.{encode_lower}
 use Rattle.mp_types.specs.declared.errno.Errno.{Errno}
 use Rattle.mp_types.specs.declared.errno.Errno.TheVariants.{Eperm, Enoent, Eio, Ebadf, Enomem, Eexist, Enotdir, Eisdir, Einval, Emfile, Efbig, Enametoolong, Enotempty, Eoverflow, Estale}
 use Rattle.bucket_model.specs.declared.answer.Brief.{Brief}
@@ -37,6 +38,9 @@ answer_text (answer.Found etag size) = codes "found " ++ (etag ++ (codes " " ++ 
 answer_text answer.Missing = codes "missing"
 answer_text answer.Yes = codes "yes"
 answer_text answer.No = codes "no"
+answer_text (answer.Bytes count) = codes "bytes " ++ decimal count
+answer_text answer.Changed = codes "changed"
+answer_text answer.Gone = codes "gone"
 answer_text (answer.Made etag) = codes "made " ++ etag
 answer_text answer.Fault = codes "fault"
 answer_text answer.NoMemory = codes "nomemory"
@@ -51,10 +55,13 @@ drop_text job = codes "X " ++ (decimal job ++ codes "\n")
 
 abbrev pub owner_text : Owner → List ℕ
 owner_text (owner.Line number) = codes "L" ++ decimal number
+owner_text (owner.Stream number) = codes "S" ++ decimal number
 
 abbrev pub call_text : AskedCall → List ℕ
 call_text (asked.Head key) = codes "head " ++ escaped key
 call_text (asked.Probe key) = codes "probe " ++ escaped key
+call_text (asked.Get key etag from to) = codes "get " ++ (escaped key ++ (codes " " ++ (etag ++ (codes " " ++ (decimal from ++ (codes " " ++ decimal to))))))
+call_text (asked.Delete key) = codes "delete " ++ escaped key
 call_text (asked.Put key size) = codes "put " ++ (escaped key ++ (codes " " ++ decimal size))
 
 abbrev pub ask_text : Ask → List ℕ
@@ -82,6 +89,9 @@ said_text (reply.Made etag) = codes "made " ++ etag
 said_text reply.Success = codes "ok"
 said_text reply.Directory = codes "dir"
 said_text (reply.File size) = codes "file " ++ decimal size
+said_text (reply.Open size) = codes "open " ++ decimal size
+said_text (reply.Data bytes) = codes "data x" ++ encode_lower bytes
+said_text reply.Gone = codes "gone"
 said_text (reply.Failed errno) = codes "err " ++ errno_text errno
 
 abbrev pub reply_text : Answered → List ℕ

@@ -9,6 +9,7 @@ use Rattle.bucket_model.specs.Along.{Along}
 use Rattle.bucket_model.specs.Answers.{fits, is_counted}
 use Rattle.mount_model.specs.declared.request.Request.{Request}
 use Rattle.mount_model.specs.declared.request.Request.TheVariants as request
+use Rattle.mount_model.specs.declared.request.Reply.{Reply}
 use Rattle.mount_model.specs.declared.request.Reply.TheVariants as reply
 use Rattle.mount_model.specs.declared.request.Line.{Line}
 use Rattle.mount_model.specs.declared.event.Event.{Event}
@@ -23,8 +24,9 @@ use Rattle.mount_model.specs.declared.standing.Phase.{Phase}
 use Rattle.mount_model.specs.declared.standing.Phase.TheVariants.{Waiting, Begun, Replied}
 use Rattle.mount_model.specs.declared.standing.Standing.{Standing}
 use Rattle.mount_model.specs.Step.{Step}
-use Rattle.mount_model.specs.State.{ClientState, Job, JobPhase, Ready, Out, Gone, opening, after, state_after, line_at, job_at, lines_at, with_replies}
-use Rattle.mount_model.specs.Conversation.{Next, Asks, Replies, Waits, next_of}
+use Rattle.mount_model.specs.State.{ClientState, Job, JobPhase, Ready, Out, Gone, opening, after, state_after, line_at, job_at, lines_at, line_of, next_at, with_replies}
+use Rattle.mount_model.specs.Conversation.{Next, Asks, Replies, Opens, Gives, Waits}
+use Rattle.mount_model.specs.Handles.{Opened, handle_of, owner_for}
 
 -- which lines may begin
 
@@ -79,49 +81,50 @@ MayCome state (Done job position answer) = MayDone state job position answer
 abbrev pub asked_of : Call → AskedCall
 asked_of (call.Head key) = asked.Head key
 asked_of (call.Probe key) = asked.Probe key
+asked_of (call.Get key etag from to) = asked.Get key etag from to
+asked_of (call.Delete key) = asked.Delete key
 asked_of (call.Put key bytes) = asked.Put key (length bytes)
 
-abbrev pub next_at : ℕ → List Standing → Next
-next_at number lines = by_line (line_at number lines)
-  where
-    by_line : Option Standing → Next
-    by_line None = Waits
-    by_line (Some s) = by_phase s.phase
-      where
-        by_phase : Phase → Next
-        by_phase Waiting = Waits
-        by_phase (Begun answers) = next_of s.line.request answers
-        by_phase Replied = Waits
-
--- a step is the turn of one line, or of none
+-- a step is the turn of one line, with the owner of what it asks for, or of none
 pub data Turn : Type 0 where
-  TurnOf : ℕ → Next → Turn
+  TurnOf : ℕ → Owner → Next → Turn
   NoTurn : Turn
 
-abbrev pub turn_of_owner : Option Job → List Standing → Turn
-turn_of_owner None lines = NoTurn
-turn_of_owner (Some job) lines = by_owner job.owner
+abbrev pub owner_at : List Opened → ℕ → List Standing → Owner
+owner_at handles number lines = by_line (line_at number lines)
   where
-    by_owner : Owner → Turn
-    by_owner (owner.Line number) = TurnOf number (next_at number lines)
+    by_line : Option Standing → Owner
+    by_line None = owner.Line number
+    by_line (Some s) = owner_for number s.line.request (handle_of s.line handles)
 
--- the line that begins, or the one whose job has its answer
+abbrev pub turn_of : List Opened → Option ℕ → List Standing → Turn
+turn_of handles None lines = NoTurn
+turn_of handles (Some number) lines = TurnOf number (owner_at handles number lines) (next_at handles number lines)
+
+-- the line that begins, or the one whose job has its answer, with what it does behind the event
 abbrev pub turn_at : ClientState → Event → Turn
-turn_at state (Begin line time) = TurnOf line (next_at line (lines_at state.lines state.jobs (Begin line time)))
-turn_at state (Take job time from) = NoTurn
-turn_at state (Done job position answer) = turn_of_owner (job_at job state.jobs) (lines_at state.lines state.jobs (Done job position answer))
+turn_at state event = turn_of state.handles (line_of state.jobs event) (lines_at state.lines state.jobs event)
 
-abbrev pub AsksFor : ℕ → ℕ → Call → List Ask → List Answered → Type 0
-AsksFor job line called asks own = (asks ≡ record { job = job; owner = owner.Line line; call = asked_of called } ∷ []) × (own ≡ [])
+abbrev pub AsksFor : ℕ → Owner → Call → List Ask → List Answered → Type 0
+AsksFor job owner called asks own = (asks ≡ record { job = job; owner = owner; call = asked_of called } ∷ []) × (own ≡ [])
 
--- where a call is due and there is no memory for it, the line is answered so
+abbrev pub Says : ℕ → Reply → List Ask → List Answered → Type 0
+Says line said asks own = (asks ≡ []) × (own ≡ record { line = line; reply = said } ∷ [])
+
+-- where a call is due, or a handle, and there is no memory for it, the line is answered so
 abbrev pub LacksMemory : ℕ → List Ask → List Answered → Type 0
-LacksMemory line asks own = (asks ≡ []) × (own ≡ record { line = line; reply = reply.Failed Enomem } ∷ [])
+LacksMemory line asks own = Says line (reply.Failed Enomem) asks own
+
+-- so many bytes; which ones is not said here, but by what the read's handle opened
+abbrev pub SaysData : ℕ → ℕ → List Ask → List Answered → Type 0
+SaysData line count asks own = (bytes : List ℕ) × (length bytes ≡ count) × Says line (reply.Data bytes) asks own
 
 abbrev pub TakesTurn : ℕ → Turn → List Ask → List Answered → Type 0
-TakesTurn job (TurnOf line (Asks called)) asks own = AsksFor job line called asks own ⊎ LacksMemory line asks own
-TakesTurn job (TurnOf line (Replies said)) asks own = (asks ≡ []) × (own ≡ record { line = line; reply = said } ∷ [])
-TakesTurn job (TurnOf line Waits) asks own = (asks ≡ []) × (own ≡ [])
+TakesTurn job (TurnOf line owner (Asks called)) asks own = AsksFor job owner called asks own ⊎ LacksMemory line asks own
+TakesTurn job (TurnOf line owner (Replies said)) asks own = Says line said asks own
+TakesTurn job (TurnOf line owner (Opens version)) asks own = Says line (reply.Open version.size) asks own ⊎ LacksMemory line asks own
+TakesTurn job (TurnOf line owner (Gives count)) asks own = SaysData line count asks own
+TakesTurn job (TurnOf line owner Waits) asks own = (asks ≡ []) × (own ≡ [])
 TakesTurn job NoTurn asks own = (asks ≡ []) × (own ≡ [])
 
 -- An await is answered once all lines above it have their replies: the first line without a reply, where it is
@@ -138,6 +141,10 @@ due_awaits (s ∷ lines) = by_phase s.phase (due_awaits lines)
         by_request (request.Put key content) = []
         by_request request.Await = record { line = s.line.number; reply = reply.Success } ∷ more
         by_request (request.Stat path) = []
+        by_request (request.OpenRead name path) = []
+        by_request (request.Read name offset count) = []
+        by_request (request.Close name) = []
+        by_request (request.Delete key) = []
     by_phase Replied more = more
 
 -- The step may come in this state: its event may, and its asks and replies are those of the line whose turn it is,

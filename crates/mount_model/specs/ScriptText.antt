@@ -1,5 +1,5 @@
 -- The script that bytes spell, or the first line that spells none, and why.
-use Rattle.std.specs.Prelude.{ℕ, ◌+◌, ◌-◌, ◌*◌, List, [], ◌∷◌, length, fold, Bool, true, not, ◌&&◌, ◌||◌, ◌==◌, nat_eq, nat_le, nat_lt, if◌then◌else◌, codes, Result, Ok, Err}
+use Rattle.std.specs.Prelude.{ℕ, ◌+◌, ◌-◌, ◌*◌, ◌^◌, List, [], ◌∷◌, length, fold, Bool, true, not, ◌&&◌, ◌||◌, ◌==◌, nat_eq, nat_le, nat_lt, if◌then◌else◌, codes, Result, Ok, Err}
 use Rattle.std.specs.List.{list_any, list_all, slice_split, onto_first}
 use Rattle.std.specs.Cmp.Lexicographic.{pointwise}
 use Rattle.mp_types.specs.declared.octets.Data.{Data}
@@ -8,8 +8,10 @@ use Rattle.mp_types.specs.declared.path.PathFault.{PathFault}
 use Rattle.mp_types.specs.Path.{path_of}
 use Rattle.mount_model.specs.declared.fault.ScriptCause.{ScriptCause}
 use Rattle.mount_model.specs.declared.fault.ScriptCause.TheVariants as cause
+use Rattle.mount_model.specs.declared.fault.What.{What}
+use Rattle.mount_model.specs.declared.fault.What.TheVariants.{Lines, Reads}
 use Rattle.mount_model.specs.declared.request.Request.{Request}
-use Rattle.mount_model.specs.declared.request.Request.TheVariants.{Put, Await, Stat}
+use Rattle.mount_model.specs.declared.request.Request.TheVariants.{Put, Await, Stat, OpenRead, Read, Close, Delete}
 use Rattle.mount_model.specs.declared.request.Line.{Line}
 use Rattle.mount_model.specs.RecordText.{is_plain}
 
@@ -21,6 +23,14 @@ abbrev pub ◌>>=◌ : {A B : Type 0} → Result A ScriptCause → (A → Result
 -- a script has at most this many bytes
 abbrev pub max_script_bytes : ℕ
 max_script_bytes = 67108864
+
+-- and at most this many lines
+abbrev pub max_lines : ℕ
+max_lines = 65536
+
+-- its reads ask for at most this many bytes together
+abbrev pub max_read_bytes : ℕ
+max_read_bytes = 268435456
 
 -- lines end at line feeds; a last line without one counts
 abbrev pub lines_of : List ℕ → List (List ℕ)
@@ -46,6 +56,14 @@ is_number word = not (length word == 0) && nat_le (length word) 40 && list_all i
 -- a process, 1 to 999, or 0 for the others
 abbrev pub actor_of : List ℕ → Result ℕ ScriptCause
 actor_of word = if is_number word && nat_le (number_of word) 999 then Ok (number_of word) else Err cause.Actor
+
+-- the name of a handle
+abbrev pub handle_word : List ℕ → Result ℕ ScriptCause
+handle_word word = if is_number word && nat_le (number_of word) 65535 then Ok (number_of word) else Err cause.Handle
+
+-- an offset or a count
+abbrev pub number_word : List ℕ → Result ℕ ScriptCause
+number_word word = if is_number word && nat_lt (number_of word) (2 ^ 63) then Ok (number_of word) else Err cause.Number
 
 -- texts: today each byte has to stand for itself
 abbrev pub plain_of : List ℕ → Result (List ℕ) ScriptCause
@@ -91,6 +109,33 @@ stat_of (path ∷ []) = do
   Ok (Stat p)
 stat_of words = Err cause.Words
 
+abbrev pub open_of : List (List ℕ) → Result Request ScriptCause
+open_of (handle ∷ path ∷ []) = do
+  h ← handle_word handle
+  p ← path_word path
+  Ok (OpenRead h p)
+open_of words = Err cause.Words
+
+abbrev pub read_of : List (List ℕ) → Result Request ScriptCause
+read_of (handle ∷ offset ∷ count ∷ []) = do
+  h ← handle_word handle
+  o ← number_word offset
+  c ← number_word count
+  Ok (Read h o c)
+read_of words = Err cause.Words
+
+abbrev pub close_of : List (List ℕ) → Result Request ScriptCause
+close_of (handle ∷ []) = do
+  h ← handle_word handle
+  Ok (Close h)
+close_of words = Err cause.Words
+
+abbrev pub delete_of : List (List ℕ) → Result Request ScriptCause
+delete_of (key ∷ []) = do
+  k ← key_of key
+  Ok (Delete k)
+delete_of words = Err cause.Words
+
 abbrev pub await_of : List (List ℕ) → Result Request ScriptCause
 await_of [] = Ok Await
 await_of words = Err cause.Words
@@ -98,12 +143,25 @@ await_of words = Err cause.Words
 abbrev pub is_word : List ℕ → List ℕ → Bool
 is_word word text = pointwise nat_eq word text
 
+-- what the others ask for: changes of the bucket
+abbrev pub change_of : List ℕ → List (List ℕ) → Result Request ScriptCause
+change_of verb words =
+    if is_word verb (codes "put") then put_of words
+    else (if is_word verb (codes "delete") then delete_of words else Err cause.Verb)
+
+-- what a process asks for
+abbrev pub asked_by_process : List ℕ → List (List ℕ) → Result Request ScriptCause
+asked_by_process verb words =
+    if is_word verb (codes "stat") then stat_of words
+    else (if is_word verb (codes "openr") then open_of words
+    else (if is_word verb (codes "read") then read_of words
+    else (if is_word verb (codes "close") then close_of words else Err cause.Verb)))
+
 -- processes ask, the others change the bucket, and all may wait
 abbrev pub request_of : ℕ → List ℕ → List (List ℕ) → Result Request ScriptCause
 request_of actor verb words =
     if is_word verb (codes "await") then await_of words
-    else (if is_word verb (codes "stat") && not (actor == 0) then stat_of words
-    else (if is_word verb (codes "put") && actor == 0 then put_of words else Err cause.Verb))
+    else (if actor == 0 then change_of verb words else asked_by_process verb words)
 
 abbrev pub words_request : ℕ → List (List ℕ) → Result Request ScriptCause
 words_request actor [] = Err cause.Words
@@ -141,5 +199,29 @@ abbrev pub script_from : ℕ → List (List ℕ) → Result (List Line) BadLine
 script_from number [] = Ok []
 script_from number (line ∷ lines) = if is_passed line then script_from (number + 1) lines else with_line number (asked_of line) (script_from (number + 1) lines)
 
-abbrev pub script_of : List ℕ → Result (List Line) BadLine
-script_of bytes = script_from 1 (lines_of bytes)
+-- how many bytes a request asks to read
+abbrev pub count_in : Request → ℕ
+count_in (Read name offset count) = count
+count_in (Put key content) = 0
+count_in Await = 0
+count_in (Stat path) = 0
+count_in (OpenRead name path) = 0
+count_in (Close name) = 0
+count_in (Delete key) = 0
+
+abbrev pub bytes_asked : List Line → ℕ
+bytes_asked [] = 0
+bytes_asked (line ∷ lines) = count_in line.request + bytes_asked lines
+
+-- why bytes spell no script
+pub data Refusal : Type 0 where
+  Bad : ℕ → ScriptCause → Refusal
+  TooLong : What → Refusal
+
+abbrev pub with_reads_checked : Result (List Line) BadLine → Result (List Line) Refusal
+with_reads_checked (Err bad) = Err (Bad bad.line bad.cause)
+with_reads_checked (Ok lines) = if nat_lt max_read_bytes (bytes_asked lines) then Err (TooLong Reads) else Ok lines
+
+-- the count of lines is looked at first, then each line, and then the reads together
+abbrev pub script_of : List ℕ → Result (List Line) Refusal
+script_of bytes = if nat_lt max_lines (length (lines_of bytes)) then Err (TooLong Lines) else with_reads_checked (script_from 1 (lines_of bytes))

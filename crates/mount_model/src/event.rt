@@ -1,6 +1,6 @@
 use crate::Reply;
 use bucket_model::Brief;
-use mp_types::Key;
+use mp_types::{ETag, Key};
 
 /// What one step of the mount begins with.
 #[derive(Debug, Drop)]
@@ -29,14 +29,32 @@ pub enum Event {
 pub enum Owner {
     /// The line of this number.
     Line(u32),
+    /// The stream of the handle that the line of this number opened.
+    Stream(u32),
 }
 
 /// A bucket call as the record tells it, with the length of what is put in place of the bytes.
 #[derive(Debug, Drop)]
 pub enum AskedCall {
-    Head { key: Key },
-    Probe { key: Key },
-    Put { key: Key, length: u64 },
+    Head {
+        key: Key,
+    },
+    Probe {
+        key: Key,
+    },
+    Get {
+        key: Key,
+        etag: ETag,
+        from: u64,
+        to: u64,
+    },
+    Delete {
+        key: Key,
+    },
+    Put {
+        key: Key,
+        length: u64,
+    },
 }
 
 /// A job that a step asks for.

@@ -7,6 +7,10 @@ pub enum ScriptCause {
     Verb,
     /// A word is empty or missing, or there is one too many.
     Words,
+    /// A handle's name isn't a number from 0 to 65,535.
+    Handle,
+    /// An offset or a count isn't a number below 2^63.
+    Number,
     /// A word has `%` or a byte that doesn't stand for itself.
     Escape,
     /// A key has more than 1,024 bytes.
@@ -22,4 +26,8 @@ pub enum ScriptCause {
 pub enum What {
     /// More than 67,108,864 bytes.
     Bytes,
+    /// More than 65,536 lines, those without a request too.
+    Lines,
+    /// Reads that ask for more than 268,435,456 bytes together.
+    Reads,
 }

@@ -4,12 +4,14 @@
 
 mod event;
 mod fault;
+mod handle;
 mod record;
 mod request;
 mod standing;
 
 pub use event::{Answered, Ask, AskedCall, Event, Owner};
 pub use fault::{ScriptCause, What};
+pub use handle::{Handle, Version};
 pub use record::{Item, Record};
 pub use request::{Line, Reply, Request, Script};
 pub use standing::{Phase, Standing};

@@ -1,14 +1,39 @@
+use bytes::Bytes;
 use mp_types::{Data, ETag, Errno, Items, Key, Text};
 
 /// What one line of a script asks for.
 #[derive(Debug, Drop)]
 pub enum Request {
     /// Others store an object.
-    Put { key: Key, content: Data },
+    Put {
+        key: Key,
+        content: Data,
+    },
     /// Waits until every line above has its reply.
     Await,
     /// Asks what stands at a path.
-    Stat { path: Text },
+    Stat {
+        path: Text,
+    },
+    /// Opens the object at a path for reading, under a name of the process's own.
+    OpenRead {
+        handle: u16,
+        path: Text,
+    },
+    /// Reads at most `count` bytes from place `offset` on.
+    Read {
+        handle: u16,
+        offset: u64,
+        count: u64,
+    },
+    /// Gives a handle up.
+    Close {
+        handle: u16,
+    },
+    /// Others delete an object.
+    Delete {
+        key: Key,
+    },
 }
 
 /// The answer to a line.
@@ -22,6 +47,12 @@ pub enum Reply {
     Directory,
     /// A file of this many bytes stands there.
     File { size: u64 },
+    /// A handle on an object of this many bytes.
+    Open { size: u64 },
+    /// The bytes that were read.
+    Data(Bytes),
+    /// No object stands at the key any more.
+    Gone,
     /// The request failed.
     Failed(Errno),
 }

@@ -1,14 +1,15 @@
 -- What each status of a run promises.
 use Rattle.std.specs.Prelude.{◌≡◌, ℕ, ◌<◌, ◌≤◌, List, [], ◌∷◌, length, codes, Option, Some, None, Ok, Err, ◌⊎◌}
 use Rattle.bucket_model.specs.History.{History}
-use Rattle.mount_model.specs.declared.fault.ScriptCause.{ScriptCause}
-use Rattle.mount_model.specs.declared.fault.What.TheVariants.{Bytes}
+use Rattle.mount_model.specs.declared.fault.What.{What}
+use Rattle.mount_model.specs.declared.fault.What.TheVariants.{Bytes, Lines, Reads}
 use Rattle.mount_model.specs.declared.request.Line.{Line}
 use Rattle.mount_model.specs.Step.{Step}
 use Rattle.mount_model.specs.Run.{IsRun}
 use Rattle.mount_model.specs.RecordText.{record_text}
-use Rattle.mount_model.specs.ScriptText.{script_of, max_script_bytes}
-use Rattle.mp_driver.specs.Drive.{IsTiedTo}
+use Rattle.mount_model.specs.ScriptText.{Refusal, Bad, script_of, max_script_bytes}
+use Rattle.mount_model.specs.ScriptText as text
+use Rattle.mp_driver.specs.Drive.{IsTiedTo, ReadsOver, HasFewFaults}
 use Rattle.mp_record.specs.Appends.{Appends, AppendsFront}
 use Rattle.mount_one.specs.Reading.{IsSpent}
 use Rattle.mount_one.specs.declared.status.Status.{Status}
@@ -23,33 +24,39 @@ abbrev pub Spells : Option (List ℕ) → List Line → Type 0
 Spells None script = Unit {0}
 Spells (Some bytes) script = (length bytes ≤ max_script_bytes) × (script_of bytes ≡ Ok script)
 
--- the first line that is no request, and why
-abbrev pub SpellsNone : Option (List ℕ) → ℕ → ScriptCause → Type 0
-SpellsNone None line cause = Unit {0}
-SpellsNone (Some bytes) line cause = (length bytes ≤ max_script_bytes) × (script_of bytes ≡ Err (record { line = line; cause = cause }))
+-- they spell none, for this reason
+abbrev pub SpellsNone : Option (List ℕ) → Refusal → Type 0
+SpellsNone None why = Unit {0}
+SpellsNone (Some bytes) why = (length bytes ≤ max_script_bytes) × (script_of bytes ≡ Err why)
 
-abbrev pub IsTooLong : Option (List ℕ) → Type 0
-IsTooLong None = Unit {0}
-IsTooLong (Some bytes) = max_script_bytes < length bytes
+-- there is too much of this: of bytes, which aren't read to their end, or of lines or reads, which are counted when they are
+abbrev pub IsTooLong : Option (List ℕ) → What → Type 0
+IsTooLong None what = Unit {0}
+IsTooLong (Some bytes) Bytes = max_script_bytes < length bytes
+IsTooLong (Some bytes) Lines = SpellsNone (Some bytes) (text.TooLong Lines)
+IsTooLong (Some bytes) Reads = SpellsNone (Some bytes) (text.TooLong Reads)
 
 -- The steps are a run of the script that the input spells, tied call by call to the store's history from its
--- opening length on.
-pub record Serves (input : Option (List ℕ)) (start : ℕ) (is_alone : Type 0) (history : Option History) (steps : List Step) : Type 0 where
+-- opening length on. Each read gives bytes of the version that its handle opened, and at most as many calls are
+-- told to have failed as the store's count of faults rose by.
+pub record Serves (input : Option (List ℕ)) (start : ℕ) (is_alone : Type 0) (history : Option History) (faults_before faults_after : ℕ) (steps : List Step) : Type 0 where
   pub script : List Line
   pub spelled : Spells input script
   pub run : IsRun script steps
   pub tied : IsTiedTo history script start is_alone steps
+  pub reads : ReadsOver history script steps
+  pub faults : HasFewFaults faults_before faults_after steps
 
 -- What the sink holds is what it held, and then the text of the record of such a run.
-pub record WritesRecord (input : Option (List ℕ)) (start : ℕ) (is_alone : Type 0) (history : Option History) (held held_after : Option (List ℕ)) : Type 0 where
+pub record WritesRecord (input : Option (List ℕ)) (start : ℕ) (is_alone : Type 0) (history : Option History) (faults_before faults_after : ℕ) (held held_after : Option (List ℕ)) : Type 0 where
   pub steps : List Step
-  pub served : Serves input start is_alone history steps
+  pub served : Serves input start is_alone history faults_before faults_after steps
   pub written : Appends held (record_text steps) held_after
 
 -- The same, with a front of the text.
-pub record WritesFront (input : Option (List ℕ)) (start : ℕ) (is_alone : Type 0) (history : Option History) (held held_after : Option (List ℕ)) : Type 0 where
+pub record WritesFront (input : Option (List ℕ)) (start : ℕ) (is_alone : Type 0) (history : Option History) (faults_before faults_after : ℕ) (held held_after : Option (List ℕ)) : Type 0 where
   pub steps : List Step
-  pub served : Serves input start is_alone history steps
+  pub served : Serves input start is_alone history faults_before faults_after steps
   pub written : AppendsFront held (record_text steps) held_after
 
 -- the statuses with which nothing is written and no bucket call is made
@@ -62,11 +69,21 @@ IsRefusal SourceFault = Unit {0}
 IsRefusal SinkFault = ⊥
 IsRefusal NoMemory = ⊥
 
+-- the script was served to its end, or there was no memory
+abbrev pub IsServed : Status → Type 0
+IsServed Done = Unit {0}
+IsServed NoMemory = Unit {0}
+IsServed (BadScript line cause) = ⊥
+IsServed (TooLong what) = ⊥
+IsServed Usage = ⊥
+IsServed SourceFault = ⊥
+IsServed SinkFault = ⊥
+
 -- why there is no script, by the status
 abbrev pub Refuses : Option (List ℕ) → Status → Option (List ℕ) → Type 0 → Type 0
 Refuses input Done left failed = ⊥
-Refuses input (BadScript line cause) left failed = SpellsNone input line cause × IsSpent left
-Refuses input (TooLong Bytes) left failed = IsTooLong input
+Refuses input (BadScript line cause) left failed = SpellsNone input (Bad line cause) × IsSpent left
+Refuses input (TooLong what) left failed = IsTooLong input what
 Refuses input Usage left failed = ⊥
 Refuses input SourceFault left failed = failed
 Refuses input SinkFault left failed = ⊥

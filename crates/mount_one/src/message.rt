@@ -12,6 +12,8 @@ fn cause_text(cause: ScriptCause) -> &'static str
         ScriptCause::Actor => "actor",
         ScriptCause::Verb => "verb",
         ScriptCause::Words => "words",
+        ScriptCause::Handle => "handle",
+        ScriptCause::Number => "number",
         ScriptCause::Escape => "escape",
         ScriptCause::Key => "key",
         ScriptCause::Data => "data",
@@ -24,6 +26,8 @@ fn what_text(what: What) -> &'static str
 {
     match what {
         What::Bytes => "bytes",
+        What::Lines => "lines",
+        What::Reads => "reads",
     }
 }
 

@@ -1,8 +1,10 @@
-ghost use Rattle.std.specs.Prelude.{◌≡◌, ℕ, ◌≤◌, List, Option, ◌↔◌, ◌⊎◌, IsTrue, IfOk, IfErr};
+ghost use Rattle.std.specs.Prelude.{◌≡◌, ℕ, ◌≤◌, List, Option, Some, ◌↔◌, ◌⊎◌, IsTrue, IfOk, IfErr};
 ghost use Rattle.mp_types.specs.Count.{HasRisen};
 ghost use Rattle.mount_model.specs.declared.fault.ScriptCause.{ScriptCause};
-ghost use Rattle.mount_model.specs.declared.fault.What.TheVariants.{Bytes};
-ghost use Rattle.mount_one.specs.Headline.{AreWords, Spells, SpellsNone, IsTooLong, WritesRecord, WritesFront, IsRefusal, Refuses, Ends};
+ghost use Rattle.mount_model.specs.declared.fault.What.{What};
+ghost use Rattle.mount_model.specs.declared.request.Line.{Line};
+ghost use Rattle.mount_model.specs.ScriptText.{Bad};
+ghost use Rattle.mount_one.specs.Headline.{AreWords, IsServed, Spells, SpellsNone, IsTooLong, WritesRecord, WritesFront, IsRefusal, Refuses, Ends};
 ghost use Rattle.mount_model.specs.Run.{AreRising};
 ghost use Rattle.mount_one.specs.Reading.{IsSpent};
 
@@ -10,7 +12,7 @@ use crate::reading::{ReadFault, read_all};
 use crate::status::Status;
 use mount_core::Core;
 use mount_model::{Script, What};
-use mp_driver::drive;
+use mp_driver::{Schedule, drive};
 use mp_io::{Clock, Sink, Source};
 use mp_record::{PrintFault, print_record};
 use mp_script::{ScriptError, read_script};
@@ -60,15 +62,18 @@ fn serve<K: Sink, T: Store, C: Clock>(
 ) -> Status
     requires { AreRising 0 script }
     ensures ends { (input : Option (List ℕ)) → Spells input script → Ends result
-        (WritesRecord input (T.position store.old) (T.is_alone store.old) (T.history store.new) (K.held sink.old) (K.held sink.new))
-        (WritesFront input (T.position store.old) (T.is_alone store.old) (T.history store.new) (K.held sink.old) (K.held sink.new))
+        (WritesRecord input (T.position store.old) (T.is_alone store.old) (T.history store.new) (T.faults store.old) (T.faults store.new) (K.held sink.old) (K.held sink.new))
+        (WritesFront input (T.position store.old) (T.is_alone store.old) (T.history store.new) (T.faults store.old) (T.faults store.new) (K.held sink.old) (K.held sink.new))
         (HasRisen (K.faults sink.old) (K.faults sink.new))
         ((sink.new ≡ sink.old) × (store.new ≡ store.old)) }
     ensures honest { T.is_honest store.old → T.is_honest store.new }
 {
     let core = match Core::new(alloc, script) {
-        Ok(core) => drive(core, store, clock),
+        Ok(core) => core,
         Err(_) => return Status::NoMemory,
+    };
+    let Ok(core) = drive(alloc, core, store, clock, &Schedule::Oldest) else {
+        unreachable!()
     };
     match print_record(alloc, core.record(), sink) {
         Ok(()) => Status::Done,
@@ -89,20 +94,25 @@ pub fn run<S: Source, K: Sink, T: Store, C: Clock>(
 ) -> Status
     // The script was read to its end, and what was written is the text of the record of a run of it.
     ensures done { result ≡ Status.Done → IsSpent (S.left source.new)
-        × WritesRecord (S.left source.old) (T.position store.old) (T.is_alone store.old) (T.history store.new) (K.held sink.old) (K.held sink.new) }
+        × WritesRecord (S.left source.old) (T.position store.old) (T.is_alone store.old) (T.history store.new) (T.faults store.old) (T.faults store.new) (K.held sink.old) (K.held sink.new) }
 
     // Each refusal comes for its cause alone, and then nothing is written and no bucket call is made.
     ensures usage { (result ≡ Status.Usage) ↔ (AreWords words.now → ⊥) }
-    ensures bad_script { (line : ℕ) (cause : ScriptCause) → result ≡ Status.BadScript line cause → SpellsNone (S.left source.old) line cause × IsSpent (S.left source.new) }
-    ensures too_long { result ≡ Status.TooLong Bytes → IsTooLong (S.left source.old) }
+    ensures bad_script { (line : ℕ) (cause : ScriptCause) → result ≡ Status.BadScript line cause → SpellsNone (S.left source.old) (Bad line cause) × IsSpent (S.left source.new) }
+    ensures too_long { (what : What) → result ≡ Status.TooLong what → IsTooLong (S.left source.old) what }
     ensures source_fault { result ≡ Status.SourceFault → HasRisen (S.faults source.old) (S.faults source.new) }
     ensures refused { IsRefusal result → (sink.new ≡ sink.old) × (store.new ≡ store.old) × (clock.new ≡ clock.old) }
 
     // What was written before a failure is a front of such a text.
     ensures sink_fault { result ≡ Status.SinkFault → HasRisen (K.faults sink.old) (K.faults sink.new)
-        × WritesFront (S.left source.old) (T.position store.old) (T.is_alone store.old) (T.history store.new) (K.held sink.old) (K.held sink.new) }
+        × WritesFront (S.left source.old) (T.position store.old) (T.is_alone store.old) (T.history store.new) (T.faults store.old) (T.faults store.new) (K.held sink.old) (K.held sink.new) }
     ensures no_memory { result ≡ Status.NoMemory → ((sink.new ≡ sink.old) × (store.new ≡ store.old))
-        ⊎ WritesFront (S.left source.old) (T.position store.old) (T.is_alone store.old) (T.history store.new) (K.held sink.old) (K.held sink.new) }
+        ⊎ WritesFront (S.left source.old) (T.position store.old) (T.is_alone store.old) (T.history store.new) (T.faults store.old) (T.faults store.new) (K.held sink.old) (K.held sink.new) }
+
+    // Where the words are right, the bytes are a script, and neither source nor sink failed, the run is done, or
+    // there was no memory.
+    ensures complete { (bytes : List ℕ) (script : List Line) → AreWords words.now → S.left source.old ≡ Some bytes → Spells (Some bytes) script
+        → (HasRisen (S.faults source.old) (S.faults source.new) → ⊥) → (HasRisen (K.faults sink.old) (K.faults sink.new) → ⊥) → IsServed result }
 
     // An honest store stays honest: its history at exit is legal.
     ensures honest { T.is_honest store.old → T.is_honest store.new }

@@ -1,4 +1,5 @@
 pub mod Faults
+pub mod Firsts
 pub mod Hears
-pub mod Puts
+pub mod Paths
 pub mod Stops

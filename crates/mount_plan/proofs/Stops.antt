@@ -10,8 +10,8 @@ use Rattle.mp_types.specs.Path.{slash}
 use Rattle.mount_plan.specs.Names.{is_slash, names_of, name_length, names_behind, are_names}
 use Rattle.bucket_model.specs.declared.answer.Brief.{Brief}
 use Rattle.bucket_model.specs.declared.answer.Brief.TheVariants.{Yes}
-use Rattle.mount_model.specs.Conversation.{walk, stat_next}
-use Rattle.mount_plan.specs.Walk.{IsStop}
+use Rattle.mount_model.specs.Conversation.{Next, Entry, walk}
+use Rattle.mount_plan.specs.Walk.{IsStop, path_next}
 
 split_step : (b : Bool) (x n : ℕ) (xs : List ℕ) → names_of xs ≡ take n xs ∷ names_behind (drop n xs) → cond b ([] ∷ names_of xs) (onto_first x (names_of xs)) ≡ take (cond (not b) (1 + n) 0) (x ∷ xs) ∷ names_behind (drop (cond (not b) (1 + n) 0) (x ∷ xs))
 split_step true x n xs h = refl
@@ -58,18 +58,18 @@ one_more path end n more at =
     sym (split ∙ (ap (λ (xs : List ℕ). xs ++ take n (drop (end + 1) path)) (front ∙ ap (λ (byte : ℕ). take end path ++ byte ∷ []) at) ∙ append_assoc (take end path) (slash ∷ []) (take n (drop (end + 1) path))))
 
 -- a stop further on is one more name
-pub below_yes : (path : List ℕ) (end below : ℕ) → IsStop path end → end < length path → below ≡ end + 1 + name_length (drop (end + 1) path) → (answers : List Brief)
-    → walk (take end path) (names_behind (drop end path)) (Yes ∷ answers) ≡ walk (take below path) (names_behind (drop below path)) answers
-below_yes path end below stop more is answers =
+pub below_yes : (at : Entry → Next) (path : List ℕ) (end below : ℕ) → IsStop path end → end < length path → below ≡ end + 1 + name_length (drop (end + 1) path) → (answers : List Brief)
+    → walk at (take end path) (names_behind (drop end path)) (Yes ∷ answers) ≡ walk at (take below path) (names_behind (drop below path)) answers
+below_yes at path end below stop more is answers =
     let rest = drop (end + 1) path in
     let n = name_length rest in
     let names : names_behind (drop end path) ≡ take n rest ∷ names_behind (drop n rest) = behind_stop path end stop more ∙ split_first rest in
-    ap (λ (names : List (List ℕ)). walk (take end path) names (Yes ∷ answers)) names
-    ∙ (ap (λ (key : List ℕ). walk key (names_behind (drop n rest)) answers) (one_more path end n more (stop.at more))
-    ∙ (ap (λ (text : List ℕ). walk (take (end + 1 + n) path) (names_behind text) answers) (drop-drop n (end + 1) path)
-    ∙ ap (λ (k : ℕ). walk (take k path) (names_behind (drop k path)) answers) (sym is)))
+    ap (λ (names : List (List ℕ)). walk at (take end path) names (Yes ∷ answers)) names
+    ∙ (ap (λ (key : List ℕ). walk at key (names_behind (drop n rest)) answers) (one_more path end n more (stop.at more))
+    ∙ (ap (λ (text : List ℕ). walk at (take (end + 1 + n) path) (names_behind text) answers) (drop-drop n (end + 1) path)
+    ∙ ap (λ (k : ℕ). walk at (take k path) (names_behind (drop k path)) answers) (sym is)))
 
-pub starts : (path : List ℕ) (end : ℕ) → end ≡ 0 + name_length path → (answers : List Brief) → stat_next (Ok (names_of path)) answers ≡ walk (take end path) (names_behind (drop end path)) answers
-starts path end is answers =
+pub starts : (at : Entry → Next) (path : List ℕ) (end : ℕ) → end ≡ 0 + name_length path → (answers : List Brief) → path_next at (Ok (names_of path)) answers ≡ walk at (take end path) (names_behind (drop end path)) answers
+starts at path end is answers =
     let same : name_length path ≡ end = omega (arith, is) in
-    ap (λ (names : List (List ℕ)). stat_next (Ok names) answers) (split_first path) ∙ ap (λ (k : ℕ). walk (take k path) (names_behind (drop k path)) answers) same
+    ap (λ (names : List (List ℕ)). path_next at (Ok names) answers) (split_first path) ∙ ap (λ (k : ℕ). walk at (take k path) (names_behind (drop k path)) answers) same

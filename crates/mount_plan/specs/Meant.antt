@@ -2,14 +2,18 @@
 use Rattle.std.specs.Prelude.{◌≡◌, ◌<◌, ◌≤◌, length}
 use Rattle.mp_types.specs.Content.{bytes_of}
 use Rattle.bucket_model.specs.declared.call.Call.TheVariants as call
-use Rattle.mount_model.specs.Conversation.{Next, Asks, Replies, Waits}
+use Rattle.mount_model.specs.Conversation.{Next, Asks, Replies, Opens, Gives, Waits}
 use Rattle.mount_plan.specs.declared.planned.Plan.{Plan}
-use Rattle.mount_plan.specs.declared.planned.Plan.TheVariants.{Probe, Head, Put, Reply, Wait}
+use Rattle.mount_plan.specs.declared.planned.Plan.TheVariants.{Probe, Head, Get, Put, Delete, Reply, Open, Give, Wait}
 
--- keys that are asked about have 1 to 1,024 bytes
+-- keys that stand in a path have 1 to 1,024 bytes, and a range that is asked for has at least one
 abbrev pub Means : Plan → Next → Type 0
 Means (Probe key) next = (next ≡ Asks (call.Probe key.now)) × (0 < length key.now) × (length key.now ≤ 1024)
 Means (Head key) next = (next ≡ Asks (call.Head key.now)) × (0 < length key.now) × (length key.now ≤ 1024)
+Means (Get version from to) next = (next ≡ Asks (call.Get version.now.key version.now.etag from to)) × (from < to)
 Means (Put key content) next = next ≡ Asks (call.Put key.now (bytes_of content.now))
+Means (Delete key) next = next ≡ Asks (call.Delete key.now)
 Means (Reply said) next = next ≡ Replies said
+Means (Open key etag size) next = (next ≡ Opens (record { key = key.now; etag = etag; size = size })) × (0 < length key.now) × (length key.now ≤ 1024)
+Means (Give count) next = next ≡ Gives count
 Means Wait next = next ≡ Waits

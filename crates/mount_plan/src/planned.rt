@@ -1,5 +1,7 @@
-use mount_model::Reply;
-use mp_types::{Data, Key};
+ghost use Rattle.std.specs.Prelude.{◌≡◌};
+
+use mount_model::{Reply, Version};
+use mp_types::{Data, ETag, Errno, Key};
 
 /// What a line does next.
 #[derive(Debug, Drop)]
@@ -8,10 +10,37 @@ pub enum Plan<'a> {
     Probe(&'a str),
     /// It asks whether a file stands at this key, of 1 to 1,024 bytes.
     Head(&'a str),
+    /// It asks for the bytes `from..to` of this version. `from` is less than `to`.
+    Get {
+        version: &'a Version,
+        from: u64,
+        to: u64,
+    },
     /// It stores the content at the key.
-    Put { key: &'a Key, content: &'a Data },
+    Put {
+        key: &'a Key,
+        content: &'a Data,
+    },
+    /// It deletes the object at the key.
+    Delete(&'a Key),
     /// It is done.
     Reply(Reply),
+    /// It opens its handle on this version of the object at the key, of 1 to 1,024 bytes. `size` counts bytes.
+    Open {
+        key: &'a str,
+        etag: ETag,
+        size: u64,
+    },
+    /// It gives the bytes of its last answer, `count` of them. No bytes may also come without any call.
+    Give {
+        count: u64,
+    },
     /// It waits for other lines.
     Wait,
+}
+
+pub fn failed<'a>(errno: Errno) -> Plan<'a>
+    ensures { result ≡ Plan.Reply (Reply.Failed errno) }
+{
+    Plan::Reply(Reply::Failed(errno))
 }

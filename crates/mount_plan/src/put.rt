@@ -1,23 +1,14 @@
 ghost use Rattle.std.specs.Prelude.{◌≡◌, List, ℕ, ◌∷◌, ◌++◌, option_copied, option_to_list};
 ghost use Rattle.bucket_model.specs.declared.answer.Brief.{Brief};
 ghost use Rattle.mp_types.specs.Content.{bytes_of};
-ghost use Rattle.mount_model.specs.Conversation.{Replies, errno_of, put_next};
+ghost use Rattle.mount_model.specs.Conversation.{Replies, put_next};
 ghost use Rattle.mount_plan.specs.Meant.{Means};
 
 use crate::Plan;
+use crate::answered::{errno, first_answer};
 use bucket_model::Brief;
 use mount_model::Reply;
-use mp_types::{Data, Errno, Key};
-
-// The error of a call that failed, or whose answer doesn't fit.
-pub fn errno(answer: &Brief) -> Errno
-    ensures { result ≡ errno_of answer.now }
-{
-    match answer {
-        Brief::NoMemory => Errno::Enomem,
-        _ => Errno::Eio,
-    }
-}
+use mp_types::{Data, Key};
 
 fn put_reply(answer: &Brief) -> Reply
     ensures { (key bytes : List ℕ) (answers : List Brief) → put_next key bytes (answer.now ∷ answers) ≡ Replies result }
@@ -36,11 +27,8 @@ pub fn put_plan<'a>(
 ) -> Plan<'a>
     ensures { Means result (put_next key.now (bytes_of content.now) (answers.now ++ option_to_list (option_copied last.entry))) }
 {
-    match answers {
-        [answer, ..] => Plan::Reply(put_reply(answer)),
-        [] => match last {
-            Some(answer) => Plan::Reply(put_reply(answer)),
-            None => Plan::Put { key, content },
-        },
+    match first_answer(answers, last) {
+        Some(answer) => Plan::Reply(put_reply(answer)),
+        None => Plan::Put { key, content },
     }
 }

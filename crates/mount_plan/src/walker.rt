@@ -1,16 +1,15 @@
-ghost use Rattle.std.specs.Prelude.{◌≡◌, ◌++◌, ◌==◌, ◌≤◌, ◌≢◌, [], ◌∷◌, List, true, false, length, option_copied, option_to_list};
+ghost use Rattle.std.specs.Prelude.{◌≡◌, ◌++◌, ◌==◌, ◌<◌, ◌≤◌, ◌≢◌, [], ◌∷◌, List, Ok, true, false, length, take, option_copied, option_to_list};
 ghost use Rattle.bucket_model.specs.declared.answer.Brief.{Brief};
-ghost use Rattle.mount_model.specs.Conversation.{stat_next};
+ghost use Rattle.mount_model.specs.Conversation.{Next, Entry};
 ghost use Rattle.mount_plan.specs.Meant.{Means};
 ghost use Rattle.mount_plan.specs.Names.{names_of, are_names};
-ghost use Rattle.mount_plan.specs.Walk.{IsStop, HearsSo, next_from, next_at};
+ghost use Rattle.mount_plan.specs.Walk.{IsStop, ComesTo, HearsSo, next_from, next_at, path_next};
 
 use crate::Plan;
+use crate::answered::errno;
 use crate::path::name_end;
-use crate::put::errno;
 use bucket_model::Brief;
-use mount_model::Reply;
-use mp_types::Errno;
+use mp_types::{ETag, Errno};
 
 // A walk from the left over the prefixes of a path, at one of them.
 #[derive(Clone, Copy)]
@@ -23,16 +22,20 @@ pub struct Walker<'a> {
     is_blocked: bool,
 }
 
-// What a walker does with an answer.
-pub enum Heard<'a> {
-    Goes(Walker<'a>),
-    Says(Reply),
+// What stands at the end of a path.
+#[derive(Drop)]
+pub enum Target<'a> {
+    Directory,
+    File { key: &'a str, etag: ETag, size: u64 },
+    Nothing,
 }
 
-fn failed<'a>(errno: Errno) -> Heard<'a>
-    ensures { result ≡ Heard.Says (Reply.Failed errno) }
-{
-    Heard::Says(Reply::Failed(errno))
+// Where a walk has come to.
+pub enum Walked<'a> {
+    // it asks about a prefix
+    At(Walker<'a>),
+    Finds(Target<'a>),
+    Fails(Errno),
 }
 
 // A walk at the first name.
@@ -40,7 +43,7 @@ pub fn start(path: &str) -> Walker<'_>
     requires names { are_names (names_of path.now) ≡ true }
     requires short { length path.now ≤ 1024 }
     ensures stop { IsStop result.path.now result.end }
-    ensures next { (answers : List Brief) → stat_next (Ok (names_of path.now)) answers ≡ next_from result answers }
+    ensures next { (at : Entry → Next) (answers : List Brief) → path_next at (Ok (names_of path.now)) answers ≡ next_from at result answers }
 {
     Walker {
         path,
@@ -54,6 +57,16 @@ impl<'a> Walker<'a> {
         ensures { result ≡ (self.entry.end == length self.entry.path.now) }
     {
         self.end == self.path.len()
+    }
+
+    // The key of the prefix.
+    fn key(self) -> &'a str
+        requires { IsStop self.path.now self.end }
+        ensures front { result.now ≡ take self.entry.end self.entry.path.now }
+        ensures some { 0 < length result.now }
+        ensures short { length result.now ≤ 1024 }
+    {
+        &self.path[..self.end]
     }
 
     fn blocked(self) -> Walker<'a>
@@ -72,7 +85,7 @@ impl<'a> Walker<'a> {
         requires stop { IsStop self.path.now self.end }
         requires more { self.end ≢ length self.path.now }
         ensures stop { IsStop result.path.now result.end }
-        ensures next { (answers : List Brief) → next_at false self.entry.path.now self.entry.end (Brief.Yes ∷ answers) ≡ next_from result answers }
+        ensures next { (at : Entry → Next) (answers : List Brief) → next_at at false self.entry.path.now self.entry.end (Brief.Yes ∷ answers) ≡ next_from at result answers }
     {
         Walker {
             path: self.path,
@@ -81,7 +94,7 @@ impl<'a> Walker<'a> {
         }
     }
 
-    fn hear_probe(self, answer: &Brief) -> Heard<'a>
+    fn hear_probe(self, answer: &Brief) -> Walked<'a>
         requires stop { IsStop self.path.now self.end }
         requires free { self.is_blocked ≡ false }
         ensures { HearsSo self.entry answer.now result }
@@ -89,33 +102,42 @@ impl<'a> Walker<'a> {
         match answer {
             Brief::Yes => {
                 if self.is_at_end() {
-                    return Heard::Says(Reply::Directory);
+                    return Walked::Finds(Target::Directory);
                 }
-                Heard::Goes(self.one_below())
+                Walked::At(self.one_below())
             }
-            Brief::No => Heard::Goes(self.blocked()),
-            _ => failed(errno(answer)),
+            Brief::No => Walked::At(self.blocked()),
+            _ => Walked::Fails(errno(answer)),
         }
     }
 
-    fn hear_head(self, answer: &Brief) -> Heard<'a>
+    fn hear_head(self, answer: &Brief) -> Walked<'a>
         requires stop { IsStop self.path.now self.end }
         requires blocked { self.is_blocked ≡ true }
         ensures { HearsSo self.entry answer.now result }
     {
         match answer {
-            Brief::Found { size, .. } => {
+            Brief::Found { etag, size } => {
                 if self.is_at_end() {
-                    return Heard::Says(Reply::File { size: *size });
+                    return Walked::Finds(Target::File {
+                        key: self.key(),
+                        etag: etag.copy(),
+                        size: *size,
+                    });
                 }
-                failed(Errno::Enotdir)
+                Walked::Fails(Errno::Enotdir)
             }
-            Brief::Missing => failed(Errno::Enoent),
-            _ => failed(errno(answer)),
+            Brief::Missing => {
+                if self.is_at_end() {
+                    return Walked::Finds(Target::Nothing);
+                }
+                Walked::Fails(Errno::Enoent)
+            }
+            _ => Walked::Fails(errno(answer)),
         }
     }
 
-    fn hear(self, answer: &Brief) -> Heard<'a>
+    fn hear(self, answer: &Brief) -> Walked<'a>
         requires { IsStop self.path.now self.end }
         ensures { HearsSo self.entry answer.now result }
     {
@@ -126,35 +148,32 @@ impl<'a> Walker<'a> {
         }
     }
 
-    fn asks(self) -> Plan<'a>
+    pub fn asks(self) -> Plan<'a>
         requires { IsStop self.path.now self.end }
-        ensures { Means result (next_from self.entry []) }
+        ensures { (at : Entry → Next) → Means result (next_from at self.entry []) }
     {
-        let key = &self.path[..self.end];
         if self.is_blocked {
-            Plan::Head(key)
+            Plan::Head(self.key())
         } else {
-            Plan::Probe(key)
+            Plan::Probe(self.key())
         }
     }
 }
 
-pub fn walk<'a>(start: Walker<'a>, answers: &[Brief], last: Option<&Brief>) -> Plan<'a>
+pub fn walk<'a>(start: Walker<'a>, answers: &[Brief], last: Option<&Brief>) -> Walked<'a>
     requires { IsStop start.path.now start.end }
-    ensures { Means result (next_from start.entry (answers.now ++ option_to_list (option_copied last.entry))) }
+    ensures { ComesTo (λ at. next_from at start.entry (answers.now ++ option_to_list (option_copied last.entry))) result }
 {
     let mut walker = start;
     for answer in answers {
         match walker.hear(answer) {
-            Heard::Goes(on) => walker = on,
-            Heard::Says(reply) => return Plan::Reply(reply),
+            Walked::At(on) => walker = on,
+            Walked::Finds(target) => return Walked::Finds(target),
+            Walked::Fails(errno) => return Walked::Fails(errno),
         }
     }
     match last {
-        None => walker.asks(),
-        Some(answer) => match walker.hear(answer) {
-            Heard::Goes(on) => on.asks(),
-            Heard::Says(reply) => Plan::Reply(reply),
-        },
+        None => Walked::At(walker),
+        Some(answer) => walker.hear(answer),
     }
 }

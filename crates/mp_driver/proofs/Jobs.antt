@@ -1,32 +1,37 @@
--- Jobs that are looked up, taken and done.
-use Rattle.std.proofs.Common.{◌≡◌, ℕ, Bool, true, false, ◌||◌, eqb, List, [], ◌∷◌, ◌++◌, map, Some, None, refl, ap, subst, inl, inr, ◌⊎◌}
+-- Jobs that are looked up, taken and done, and those that are out.
+use Rattle.std.proofs.Common.{◌≡◌, ◌≢◌, ℕ, zero, suc, Bool, true, false, ◌||◌, ◌==◌, List, [], ◌∷◌, ◌++◌, map, Option, Some, None, refl, sym, ◌∙◌, subst, inl, inr, ◌⊎◌, eq-eqb, eqb-true}
 use Rattle.std.specs.List.{slice_get, AllByRecursion}
-use Rattle.std.proofs.lemmas.Bool.{eq-eqb}
+use Rattle.std.proofs.lemmas.List.Folds.{find-append}
 use Rattle.mount_model.specs.declared.event.Ask.{Ask}
 use Rattle.mount_model.specs.declared.standing.Standing.{Standing}
-use Rattle.mount_model.specs.State.{Job, JobPhase, Ready, Out, Gone, job_at, change_job, job_of}
+use Rattle.mount_model.specs.State.{Job, JobPhase, Ready, Out, Gone, job_at, change_job, job_of, jobs_asked}
 use Rattle.mount_model.specs.Run.{is_among, ready}
-use Rattle.mp_driver.specs.Drive.{IsHome}
+use Rattle.run_laws.proofs.Keyed.{change_at-same, change_at-other}
+use Rattle.run_laws.proofs.Jobs.{job_number, in_phase}
+use Rattle.run_laws.proofs.Spared.{all-append}
+use Rattle.mp_driver.specs.declared.held.HeldAnswer.{HeldAnswer}
+use Rattle.mp_driver.specs.Held.{IsWith}
+use Rattle.mp_driver.proofs.Between.{KnowsPhase, IsKnown}
 
-abbrev with_phase : JobPhase → Job → Job
-with_phase p job = record { number = job.number; owner = job.owner; call = job.call; phase = p }
+-- looking up
 
-pub job_at-change : (n : ℕ) (p : JobPhase) (jobs : List Job) (j : Job) → job_at n jobs ≡ Some j → job_at n (change_job n p jobs) ≡ Some (with_phase p j)
-job_at-change n p [] j h = absurd (cc)
-job_at-change n p (i ∷ jobs) j h = at_one (eqb i.number n) refl h (job_at-change n p jobs j)
-  where
-    at_one : (b : Bool) → eqb i.number n ≡ b → job_at n (i ∷ jobs) ≡ Some j → (job_at n jobs ≡ Some j → job_at n (change_job n p jobs) ≡ Some (with_phase p j)) → job_at n (change_job n p (i ∷ jobs)) ≡ Some (with_phase p j)
-    at_one true e h below = let same : Some i ≡ Some j = rw e at h in let is : i ≡ j = cc in rw (e, e) (ap (λ x. Some (with_phase p x)) is)
-    at_one false e h below = let there : job_at n jobs ≡ Some j = rw e at h in rw (e, e) (below there)
+pub job_at-change : (n : ℕ) (p : JobPhase) (jobs : List Job) (j : Job) → job_at n jobs ≡ Some j → job_at n (change_job n p jobs) ≡ Some (in_phase p j)
+job_at-change n p jobs j is = change_at-same job_number (in_phase p) (λ job. refl) n jobs j is
+
+pub job_at-other : (n m : ℕ) (p : JobPhase) (jobs : List Job) → m ≢ n → job_at m (change_job n p jobs) ≡ job_at m jobs
+job_at-other n m p jobs other = change_at-other job_number (in_phase p) (λ job. refl) n m jobs other
+
+pub job_at-more : (n : ℕ) (jobs more : List Job) (j : Job) → job_at n jobs ≡ Some j → job_at n (jobs ++ more) ≡ Some j
+job_at-more n jobs more j is = rw (find-append, is) refl
 
 -- a job that may be taken stands
 abbrev pub Stands : ℕ → List Job → Type 0
 Stands n jobs = (j : Job) × (job_at n jobs ≡ Some j)
 
 ready_stands-cons : (n : ℕ) (i : Job) (jobs : List Job) → Stands n jobs → Stands n (i ∷ jobs)
-ready_stands-cons n i jobs there = at_one (eqb i.number n) refl
+ready_stands-cons n i jobs there = at_one (i.number == n) refl
   where
-    at_one : (b : Bool) → eqb i.number n ≡ b → Stands n (i ∷ jobs)
+    at_one : (b : Bool) → (i.number == n) ≡ b → Stands n (i ∷ jobs)
     at_one true e = (i, rw e refl)
     at_one false e = (there.0, rw e there.1)
 
@@ -40,44 +45,66 @@ ready_stands n (i ∷ jobs) h = by_phase i.phase refl h (ready_stands n jobs)
 
     by_phase : (p : JobPhase) → i.phase ≡ p → is_among n (ready (i ∷ jobs)) ≡ true → (is_among n (ready jobs) ≡ true → Stands n jobs) → Stands n (i ∷ jobs)
     by_phase Ready e h below =
-        let split : (eqb i.number n || is_among n (ready jobs)) ≡ true = rw e at h in
-        elim (or_cases (eqb i.number n) (is_among n (ready jobs)) split) [
+        let split : ((i.number == n) || is_among n (ready jobs)) ≡ true = rw e at h in
+        elim (or_cases (i.number == n) (is_among n (ready jobs)) split) [
           | inl here ↦ (i, rw here refl)
           | inr there ↦ ready_stands-cons n i jobs (below there)
         ]
     by_phase (Out from) e h below = let there : is_among n (ready jobs) ≡ true = rw e at h in ready_stands-cons n i jobs (below there)
     by_phase Gone e h below = let there : is_among n (ready jobs) ≡ true = rw e at h in ready_stands-cons n i jobs (below there)
 
--- the first of a list is among it
-pub is_among-first : (n : ℕ) (xs : List ℕ) → slice_get xs 0 ≡ Some n → is_among n xs ≡ true
-is_among-first n [] h = absurd (cc)
-is_among-first n (x ∷ xs) h = let is : x ≡ n = cc in let e : eqb n n ≡ true = eq-eqb n n refl in rw (is, e) refl
-
-pub none_first : {X : Type 0} (xs : List X) → slice_get xs 0 ≡ None → xs ≡ []
-none_first [] h = refl
-none_first (x ∷ xs) h = absurd (cc)
-
--- a job that was taken and is done is out no more
-pub home-served : (n : ℕ) (from : ℕ) (jobs : List Job) → AllByRecursion (λ (job : Job). IsHome job.phase) jobs → AllByRecursion (λ (job : Job). IsHome job.phase) (change_job n Gone (change_job n (Out from) jobs))
-home-served n from [] home = tt
-home-served n from (i ∷ jobs) home = at_one (eqb i.number n) refl (home-served n from jobs home.1)
+-- one of a list is among it
+pub is_among-place : (n i : ℕ) (xs : List ℕ) → Some n ≡ slice_get xs i → is_among n xs ≡ true
+is_among-place n i [] h = absurd (cc)
+is_among-place n zero (x ∷ xs) h = let is : x ≡ n = cc in let e : (x == n) ≡ true = eq-eqb x n is in rw e refl
+is_among-place n (suc i) (x ∷ xs) h = or_later (x == n) (is_among n xs) (is_among-place n i xs h)
   where
-    at_one : (b : Bool) → eqb i.number n ≡ b → AllByRecursion (λ (job : Job). IsHome job.phase) (change_job n Gone (change_job n (Out from) jobs)) → AllByRecursion (λ (job : Job). IsHome job.phase) (change_job n Gone (change_job n (Out from) (i ∷ jobs)))
-    at_one true e below = rw (e, e) (tt, below)
-    at_one false e below = rw (e, e) (home.0, below)
+    or_later : (b c : Bool) → c ≡ true → (b || c) ≡ true
+    or_later true c h = refl
+    or_later false c h = h
+
+-- jobs that are out have their answers held
+
+known-change : (P Q : List HeldAnswer) (n : ℕ) (p : JobPhase) (jobs : List Job) → ((number : ℕ) (phase : JobPhase) → number ≢ n → KnowsPhase P number phase → KnowsPhase Q number phase) → KnowsPhase Q n p → AllByRecursion (IsKnown P) jobs → AllByRecursion (IsKnown Q) (change_job n p jobs)
+known-change P Q n p [] others own known = tt
+known-change P Q n p (job ∷ jobs) others own known = at_one (job.number == n) refl (known-change P Q n p jobs others own known.1)
+  where
+    at_one : (b : Bool) → (job.number == n) ≡ b → AllByRecursion (IsKnown Q) (change_job n p jobs) → AllByRecursion (IsKnown Q) (change_job n p (job ∷ jobs))
+    at_one true e below = rw e (subst (λ (k : ℕ). KnowsPhase Q k p) (sym (eqb-true job.number n e)) own, below)
+    at_one false e below = rw e (others job.number job.phase (λ is. let same : (job.number == n) ≡ true = eq-eqb job.number n is in absurd (cc)) known.0, below)
+
+phase-more : (got : HeldAnswer) (less more : List HeldAnswer) → IsWith got less more → (number : ℕ) (phase : JobPhase) → number ≢ got.job → KnowsPhase less number phase → KnowsPhase more number phase
+phase-more got less more with number Ready other known = tt
+phase-more got less more with number (Out from) other known = (known.0, with.others number other ∙ known.1)
+phase-more got less more with number Gone other known = tt
+
+phase-less : (got : HeldAnswer) (less more : List HeldAnswer) → IsWith got less more → (number : ℕ) (phase : JobPhase) → number ≢ got.job → KnowsPhase more number phase → KnowsPhase less number phase
+phase-less got less more with number Ready other known = tt
+phase-less got less more with number (Out from) other known = (known.0, sym (with.others number other) ∙ known.1)
+phase-less got less more with number Gone other known = tt
+
+pub known-taken : (got : HeldAnswer) (less more : List HeldAnswer) (from : ℕ) (jobs : List Job) → IsWith got less more → AllByRecursion (IsKnown less) jobs → AllByRecursion (IsKnown more) (change_job got.job (Out from) jobs)
+known-taken got less more from jobs with known = known-change less more got.job (Out from) jobs (phase-more got less more with) (got, with.own) known
+
+pub known-done : (got : HeldAnswer) (less more : List HeldAnswer) (jobs : List Job) → IsWith got less more → AllByRecursion (IsKnown more) jobs → AllByRecursion (IsKnown less) (change_job got.job Gone jobs)
+known-done got less more jobs with known = known-change more less got.job Gone jobs (phase-less got less more with) tt known
 
 -- new jobs are ready
-pub home-asked : (jobs : List Job) (lines : List Standing) (asks : List Ask) → AllByRecursion (λ (job : Job). IsHome job.phase) jobs → AllByRecursion (λ (job : Job). IsHome job.phase) (jobs ++ map (job_of lines) asks)
-home-asked [] lines [] home = tt
-home-asked [] lines (ask ∷ asks) home = (tt, home-asked [] lines asks tt)
-home-asked (i ∷ jobs) lines asks home = (home.0, home-asked jobs lines asks home.1)
 
--- where no job is ready and none is out, each is gone
-pub all_gone : (jobs : List Job) → AllByRecursion (λ (job : Job). IsHome job.phase) jobs → ready jobs ≡ [] → AllByRecursion (λ job. job.phase ≡ Gone) jobs
-all_gone [] home none = tt
-all_gone (i ∷ jobs) home none = by_phase i.phase refl home.0 none (all_gone jobs home.1)
+known-new : (held : List HeldAnswer) (lines : List Standing) (line : ℕ) (asks : List Ask) → AllByRecursion (IsKnown held) (map (job_of lines line) asks)
+known-new held lines line [] = tt
+known-new held lines line (ask ∷ asks) = (tt, known-new held lines line asks)
+
+pub known-asked : (held : List HeldAnswer) (jobs : List Job) (lines : List Standing) (o : Option ℕ) (asks : List Ask) → AllByRecursion (IsKnown held) jobs → AllByRecursion (IsKnown held) (jobs ++ jobs_asked lines o asks)
+known-asked held jobs lines None asks known = all-append (IsKnown held) jobs [] known tt
+known-asked held jobs lines (Some line) asks known = all-append (IsKnown held) jobs (map (job_of lines line) asks) known (known-new held lines line asks)
+
+-- where no job is ready and no answer is held, each job is gone
+pub all_gone : (jobs : List Job) → AllByRecursion (IsKnown []) jobs → ready jobs ≡ [] → AllByRecursion (λ job. job.phase ≡ Gone) jobs
+all_gone [] known none = tt
+all_gone (i ∷ jobs) known none = by_phase i.phase refl known.0 none (all_gone jobs known.1)
   where
-    by_phase : (p : JobPhase) → i.phase ≡ p → IsHome i.phase → ready (i ∷ jobs) ≡ [] → (ready jobs ≡ [] → AllByRecursion (λ job. job.phase ≡ Gone) jobs) → AllByRecursion (λ job. job.phase ≡ Gone) (i ∷ jobs)
+    by_phase : (p : JobPhase) → i.phase ≡ p → KnowsPhase [] i.number i.phase → ready (i ∷ jobs) ≡ [] → (ready jobs ≡ [] → AllByRecursion (λ job. job.phase ≡ Gone) jobs) → AllByRecursion (λ job. job.phase ≡ Gone) (i ∷ jobs)
     by_phase Ready e h none below = let more : i.number ∷ ready jobs ≡ [] = rw e at none in absurd (cc)
-    by_phase (Out from) e h none below = absurd (subst IsHome e h)
+    by_phase (Out from) e h none below = let held = subst (KnowsPhase [] i.number) e h in let is = held.1 in absurd (cc)
     by_phase Gone e h none below = let more : ready jobs ≡ [] = rw e at none in (e, below more)

@@ -1,4 +1,11 @@
 pub mod Positions
-pub mod Ties
+pub mod Apart
+pub mod Versions
+pub mod Between
+pub mod Growth
 pub mod Jobs
-pub mod Serving
+pub mod Ties
+pub mod Turns
+pub mod Cores
+pub mod Faults
+pub mod Choices

@@ -1,45 +1,61 @@
--- What a driven run is tied to, and what holds between two of its turns.
-use Rattle.std.specs.Prelude.{◌≡◌, ℕ, ◌<◌, ◌≤◌, true, List, Option, Some, None}
-use Rattle.std.specs.List.{AllByRecursion}
-use Rattle.bucket_model.specs.declared.call.Call.{Call}
+-- What a driven run is tied to, which bytes its reads give, and how many faults it has.
+use Rattle.std.specs.Prelude.{◌≡◌, ℕ, ◌+◌, ◌-◌, ◌^◌, ◌≤◌, Bool, true, false, ◌⊎◌, List, Option, Some, None}
+use Rattle.std.specs.List.{count_by}
 use Rattle.bucket_model.specs.declared.answer.Brief.{Brief}
-use Rattle.bucket_model.specs.Answers.{is_counted}
+use Rattle.bucket_model.specs.declared.answer.Brief.TheVariants.{Found, Missing, Yes, No, Bytes, Changed, Gone, Made, Fault, NoMemory}
 use Rattle.bucket_model.specs.History.{History}
-use Rattle.store_trait.specs.Told.{Tells}
-use Rattle.mount_model.specs.declared.event.Event.TheVariants.{Take, Done}
+use Rattle.mount_model.specs.declared.event.Event.{Event}
+use Rattle.mount_model.specs.declared.event.Event.TheVariants.{Begin, Take, Done}
 use Rattle.mount_model.specs.declared.request.Line.{Line}
 use Rattle.mount_model.specs.Step.{Step}
-use Rattle.mount_model.specs.State.{Job, JobPhase, Ready, Out, Gone, job_at}
+use Rattle.mount_model.specs.Reads.{AreReads}
+use Rattle.mount_model.specs.Run.{IsRun}
 use Rattle.mount_model.specs.Tied.{IsTied}
-use Rattle.mount_core.specs.Core.{CoreState, state_of, Advances}
+use Rattle.mount_core.specs.Core.{CoreState}
 
 -- the record is tied to the history, as far as the store tells it
 abbrev pub IsTiedTo : Option History → List Line → ℕ → Type 0 → List Step → Type 0
 IsTiedTo None script start is_alone steps = Unit {0}
 IsTiedTo (Some told) script start is_alone steps = IsTied script start is_alone told.log steps
 
-abbrev pub IsHome : JobPhase → Type 0
-IsHome Ready = Unit {0}
-IsHome (Out from) = ⊥
-IsHome Gone = Unit {0}
+-- each read gives bytes of the version that its handle opened, as far as the store tells its versions
+abbrev pub ReadsOver : Option History → List Line → List Step → Type 0
+ReadsOver None script steps = Unit {0}
+ReadsOver (Some told) script steps = AreReads told.versions script steps
 
--- No job is out, all answers stand before the store's position, and the record is tied so far.
-pub record IsBetween (told : Option History) (position : ℕ) (start : ℕ) (is_alone : Type 0) (core : CoreState) : Type 0 where
-  pub home : AllByRecursion (λ (job : Job). IsHome job.phase) (state_of core).jobs
-  pub behind : AllByRecursion (λ p. p < position) (state_of core).positions
-  pub grown : start ≤ position
-  pub tied : IsTiedTo told core.script start is_alone core.steps
+abbrev pub is_fault : Brief → Bool
+is_fault Fault = true
+is_fault (Found etag size) = false
+is_fault Missing = false
+is_fault Yes = false
+is_fault No = false
+is_fault (Bytes count) = false
+is_fault Changed = false
+is_fault Gone = false
+is_fault (Made etag) = false
+is_fault NoMemory = false
 
--- A ready job was taken behind the store's entries, and the store's answer to its call was handed in.
-pub record Serves (job before behind : ℕ) (is_alone : Type 0) (was now : Option History) (old new : CoreState) : Type 0 where
-  pub taken : CoreState
-  pub time : ℕ
-  pub called : Call
-  pub position : ℕ
-  pub answer : Brief
-  pub take : Advances (Take job time before) old taken
-  pub done : Advances (Done job position answer) taken new
-  pub calls : (j : Job) → job_at job (state_of old).jobs ≡ Some j → called ≡ j.call
-  pub counted : is_counted answer ≡ true → position < behind
-  pub grows : before ≤ behind
-  pub tells : Tells is_alone called position answer was now
+-- whether the event is the end of a job with a fault
+abbrev pub has_failed : Event → Bool
+has_failed (Begin line time) = false
+has_failed (Take job time from) = false
+has_failed (Done job position answer) = is_fault answer
+
+abbrev pub faults_in : List Step → ℕ
+faults_in steps = count_by (λ step. has_failed step.event) steps
+
+-- the count is greater than before by at least so many, or stands at its last value
+abbrev pub HasRisenBy : ℕ → ℕ → ℕ → Type 0
+HasRisenBy many before now = (many + before ≤ now) ⊎ (2 ^ 64 - 1 ≤ now)
+
+-- the record has no more faults than were counted
+abbrev pub HasFewFaults : ℕ → ℕ → List Step → Type 0
+HasFewFaults before now steps = HasRisenBy (faults_in steps) before now
+
+-- what is promised of a run that was driven to its end
+pub record IsDriven (told : Option History) (start : ℕ) (is_alone : Type 0) (before now : ℕ) (script : List Line) (done : CoreState) : Type 0 where
+  pub same : done.script ≡ script
+  pub run : IsRun script done.steps
+  pub tied : IsTiedTo told script start is_alone done.steps
+  pub reads : ReadsOver told script done.steps
+  pub faults : HasFewFaults before now done.steps

@@ -3,5 +3,11 @@
 #![tactic(auto)]
 
 mod driving;
+mod held;
+mod schedule;
 
 pub use driving::drive;
+pub use schedule::Schedule;
+
+#[cfg(test)]
+mod tests;

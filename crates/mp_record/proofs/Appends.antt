@@ -1,8 +1,19 @@
 -- What one write after another leaves in a sink.
-use Rattle.std.proofs.Common.{◌≡◌, ℕ, ◌-◌, List, [], ◌++◌, length, take, drop, Option, Some, None, Ok, sym, ◌∙◌, ap, subst, append_assoc, append-nil}
+use Rattle.std.proofs.Common.{◌≡◌, ℕ, ◌-◌, List, [], ◌++◌, length, take, drop, Option, Some, None, Ok, refl, sym, ◌∙◌, ap, subst, append_assoc, append-nil}
 use Rattle.std.proofs.lemmas.List.{take-append-drop, take_rest}
 use Rattle.mp_io.specs.Bytes.{Writes}
 use Rattle.mp_record.specs.Appends.{Appends, AppendsBut, AppendsFront}
+
+-- nothing is appended
+Appends-nothing : (held : Option (List ℕ)) → Appends held [] held
+Appends-nothing None = tt
+Appends-nothing (Some held) = sym (append-nil held)
+
+pub AppendsBut-nothing : (held : Option (List ℕ)) (text : List ℕ) → AppendsBut held text text held
+AppendsBut-nothing held text = record { front = []; appended = Appends-nothing held; whole = refl }
+
+pub AppendsFront-nothing : (held : Option (List ℕ)) (text : List ℕ) → AppendsFront held text held
+AppendsFront-nothing held text = (text, AppendsBut-nothing held text)
 
 -- one text appended, and then another
 pub Appends-append : (held : Option (List ℕ)) (text : List ℕ) (now : Option (List ℕ)) (more : List ℕ) (after : Option (List ℕ)) → Appends held text now → Appends now more after → Appends held (text ++ more) after

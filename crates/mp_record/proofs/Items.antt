@@ -14,24 +14,21 @@ flat_map-take_more f xs i x lt is =
 pub flat_map-take-drop : {X : Type 0} (f : X → List ℕ) (i : ℕ) (xs : List X) → flat_map f (take i xs) ++ flat_map f (drop i xs) ≡ flat_map f xs
 flat_map-take-drop f i xs = sym (flat_map-append f (take i xs) (drop i xs)) ∙ ap (flat_map f) (take-append-drop i xs)
 
--- one item's text is gathered, and a front of what has been gathered is written
-pub gathered_more : {X : Type 0} (f : X → List ℕ) (xs : List X) (i : ℕ) (x : X) (held now : Option (List ℕ)) (gathered pushed : List ℕ) → i < length xs → x ≡ get_or xs i x → AppendsBut held (flat_map f (take i xs)) gathered now → pushed ≡ gathered ++ f x → AppendsBut held (flat_map f (take (i + 1) xs)) pushed now
-gathered_more f xs i x held now gathered pushed lt is but more =
-    rw (flat_map-take_more f xs i x lt is, more) (AppendsBut-more held (flat_map f (take i xs)) gathered now (f x) but)
+-- what one item more is to gather
+pub gathered_more : {X : Type 0} (f : X → List ℕ) (xs : List X) (i : ℕ) (x : X) (held now : Option (List ℕ)) (gathered : List ℕ) → i < length xs → x ≡ get_or xs i x → AppendsBut held (flat_map f (take i xs)) gathered now → AppendsBut held (flat_map f (take (i + 1) xs)) (gathered ++ f x) now
+gathered_more f xs i x held now gathered lt is but =
+    rw (flat_map-take_more f xs i x lt is) (AppendsBut-more held (flat_map f (take i xs)) gathered now (f x) but)
 
-pub step_rest : {X : Type 0} (f : X → List ℕ) (xs : List X) (i : ℕ) (x : X) (held now : Option (List ℕ)) (gathered pushed left : List ℕ) (after : Option (List ℕ)) → i < length xs → x ≡ get_or xs i x → AppendsBut held (flat_map f (take i xs)) gathered now → pushed ≡ gathered ++ f x → AppendsBut now pushed left after → AppendsBut held (flat_map f (take (i + 1) xs)) left after
-step_rest f xs i x held now gathered pushed left after lt is but more sent =
-    AppendsBut-rest held (flat_map f (take (i + 1) xs)) pushed now left after (gathered_more f xs i x held now gathered pushed lt is but more) sent
-
-pub step_front : {X : Type 0} (f : X → List ℕ) (xs : List X) (i : ℕ) (x : X) (held now : Option (List ℕ)) (gathered pushed : List ℕ) (after : Option (List ℕ)) → i < length xs → x ≡ get_or xs i x → AppendsBut held (flat_map f (take i xs)) gathered now → pushed ≡ gathered ++ f x → AppendsFront now pushed after → AppendsFront held (flat_map f xs) after
-step_front f xs i x held now gathered pushed after lt is but more sent =
-    AppendsFront-more held (flat_map f (take (i + 1) xs)) (flat_map f (drop (i + 1) xs)) (flat_map f xs) after (flat_map-take-drop f (i + 1) xs)
-    (AppendsFront-rest held (flat_map f (take (i + 1) xs)) pushed now after (gathered_more f xs i x held now gathered pushed lt is but more) sent)
+-- its text is gathered, and a front of what has been gathered is written
+pub step_rest : {X : Type 0} (f : X → List ℕ) (xs : List X) (i : ℕ) (x : X) (held now : Option (List ℕ)) (gathered left : List ℕ) (after : Option (List ℕ)) → i < length xs → x ≡ get_or xs i x → AppendsBut held (flat_map f (take i xs)) gathered now → AppendsBut now (gathered ++ f x) left after → AppendsBut held (flat_map f (take (i + 1) xs)) left after
+step_rest f xs i x held now gathered left after lt is but sent =
+    AppendsBut-rest held (flat_map f (take (i + 1) xs)) (gathered ++ f x) now left after (gathered_more f xs i x held now gathered lt is but) sent
 
 -- what has been written is a front of all
-pub items_front : {X : Type 0} (f : X → List ℕ) (xs : List X) (i : ℕ) (held now : Option (List ℕ)) (gathered : List ℕ) → AppendsBut held (flat_map f (take i xs)) gathered now → AppendsFront held (flat_map f xs) now
-items_front f xs i held now gathered but =
-    AppendsFront-more held (flat_map f (take i xs)) (flat_map f (drop i xs)) (flat_map f xs) now (flat_map-take-drop f i xs) (gathered, but)
+pub items_front : {X : Type 0} (f : X → List ℕ) (xs : List X) (i : ℕ) (held now : Option (List ℕ)) (gathered : List ℕ) (after : Option (List ℕ)) → AppendsBut held (flat_map f (take i xs)) gathered now → AppendsFront now gathered after → AppendsFront held (flat_map f xs) after
+items_front f xs i held now gathered after but front =
+    AppendsFront-more held (flat_map f (take i xs)) (flat_map f (drop i xs)) (flat_map f xs) after (flat_map-take-drop f i xs)
+    (AppendsFront-rest held (flat_map f (take i xs)) gathered now after but front)
 
 -- all is gathered, and then written
 pub written_all : (held now : Option (List ℕ)) (items gathered text : List ℕ) (after : Option (List ℕ)) → items ≡ text → AppendsBut held items gathered now → Appends now gathered after → Appends held text after

@@ -2,3 +2,4 @@ pub mod Appends
 pub mod Escaped
 pub mod Items
 pub mod RecordText
+pub mod Replies

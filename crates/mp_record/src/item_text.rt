@@ -1,12 +1,10 @@
 ghost use Rattle.std.specs.Prelude.{◌≡◌, ◌++◌, codes, decimal, OnOk};
 ghost use Rattle.mount_model.specs.RecordText.{answer_text, event_text, owner_text, escaped, call_text, ask_text};
-ghost use Rattle.mp_record.specs.ItemText.{item_text};
 
 use crate::escape::push_escaped;
-use crate::reply_text::push_reply;
 use bucket_model::Brief;
 use itoa::Buffer;
-use mount_model::{Ask, AskedCall, Event, Item, Owner};
+use mount_model::{Ask, AskedCall, Event, Owner};
 use mp_types::{ETag, Key};
 use std::alloc::AllocError;
 
@@ -40,6 +38,12 @@ fn push_answer(out: &mut Vec<u8>, answer: &Brief) -> Result<(), AllocError>
         Brief::Missing => out.extend_from_slice(b"missing"),
         Brief::Yes => out.extend_from_slice(b"yes"),
         Brief::No => out.extend_from_slice(b"no"),
+        Brief::Bytes { length } => {
+            out.extend_from_slice(b"bytes ")?;
+            push_number(out, *length)
+        }
+        Brief::Changed => out.extend_from_slice(b"changed"),
+        Brief::Gone => out.extend_from_slice(b"gone"),
         Brief::Made(etag) => push_made(out, etag),
         Brief::Fault => out.extend_from_slice(b"fault"),
         Brief::NoMemory => out.extend_from_slice(b"nomemory"),
@@ -80,7 +84,7 @@ fn push_done(out: &mut Vec<u8>, job: u64, position: u64, answer: &Brief) -> Resu
     out.extend_from_slice(b"\n")
 }
 
-fn push_event(out: &mut Vec<u8>, event: &Event) -> Result<(), AllocError>
+pub fn push_event(out: &mut Vec<u8>, event: &Event) -> Result<(), AllocError>
     ensures { OnOk result (out.new.items ≡ out.old.items ++ event_text event.now) }
 {
     match event {
@@ -102,6 +106,10 @@ fn push_owner(out: &mut Vec<u8>, owner: Owner) -> Result<(), AllocError>
             out.extend_from_slice(b"L")?;
             push_number(out, u64::from(number))
         }
+        Owner::Stream(number) => {
+            out.extend_from_slice(b"S")?;
+            push_number(out, u64::from(number))
+        }
     }
 }
 
@@ -109,6 +117,25 @@ fn push_key(out: &mut Vec<u8>, key: &Key) -> Result<(), AllocError>
     ensures { OnOk result (out.new.items ≡ out.old.items ++ escaped key.now) }
 {
     push_escaped(out, key.as_str().as_bytes())
+}
+
+fn push_range(out: &mut Vec<u8>, from: u64, to: u64) -> Result<(), AllocError>
+    ensures { OnOk result (out.new.items ≡ out.old.items ++ (decimal from ++ (codes " " ++ decimal to))) }
+{
+    push_number(out, from)?;
+    out.extend_from_slice(b" ")?;
+    push_number(out, to)
+}
+
+fn push_get(out: &mut Vec<u8>, key: &Key, etag: &ETag, from: u64, to: u64) -> Result<(), AllocError>
+    ensures { OnOk result (out.new.items ≡ out.old.items ++ call_text (AskedCall.Get key.now etag.now from to)) }
+{
+    out.extend_from_slice(b"get ")?;
+    push_key(out, key)?;
+    out.extend_from_slice(b" ")?;
+    out.extend_from_slice(etag.as_bytes())?;
+    out.extend_from_slice(b" ")?;
+    push_range(out, from, to)
 }
 
 fn push_call(out: &mut Vec<u8>, call: &AskedCall) -> Result<(), AllocError>
@@ -123,6 +150,16 @@ fn push_call(out: &mut Vec<u8>, call: &AskedCall) -> Result<(), AllocError>
             out.extend_from_slice(b"probe ")?;
             push_key(out, key)
         }
+        AskedCall::Get {
+            key,
+            etag,
+            from,
+            to,
+        } => push_get(out, key, etag, *from, *to),
+        AskedCall::Delete { key } => {
+            out.extend_from_slice(b"delete ")?;
+            push_key(out, key)
+        }
         AskedCall::Put { key, length } => {
             out.extend_from_slice(b"put ")?;
             push_key(out, key)?;
@@ -132,7 +169,7 @@ fn push_call(out: &mut Vec<u8>, call: &AskedCall) -> Result<(), AllocError>
     }
 }
 
-fn push_ask(out: &mut Vec<u8>, ask: &Ask) -> Result<(), AllocError>
+pub fn push_ask(out: &mut Vec<u8>, ask: &Ask) -> Result<(), AllocError>
     ensures { OnOk result (out.new.items ≡ out.old.items ++ ask_text ask.now) }
 {
     out.extend_from_slice(b"A ")?;
@@ -142,14 +179,4 @@ fn push_ask(out: &mut Vec<u8>, ask: &Ask) -> Result<(), AllocError>
     out.extend_from_slice(b" ")?;
     push_call(out, &ask.call)?;
     out.extend_from_slice(b"\n")
-}
-
-pub fn push_item(out: &mut Vec<u8>, item: &Item) -> Result<(), AllocError>
-    ensures { OnOk result (out.new.items ≡ out.old.items ++ item_text item.now) }
-{
-    match item {
-        Item::Event(event) => push_event(out, event),
-        Item::Ask(ask) => push_ask(out, ask),
-        Item::Reply(answered) => push_reply(out, answered),
-    }
 }

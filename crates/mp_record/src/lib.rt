@@ -2,6 +2,7 @@
 //! Nothing here decides what is recorded.
 #![tactic(auto)]
 
+mod digits;
 mod escape;
 mod item_text;
 mod print;

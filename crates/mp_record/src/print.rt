@@ -1,14 +1,18 @@
 ghost use Rattle.mp_types.specs.Count.{HasRisen};
 ghost use Rattle.std.specs.Prelude.{◌≡◌, ◌≤◌, [], ◌++◌, flat_map, OnOk, IsErrOf};
-ghost use Rattle.mount_model.specs.RecordText.{record_text};
+ghost use Rattle.hex.specs.Hex.{encode_lower};
+ghost use Rattle.mount_model.specs.RecordText.{reply_text, record_text};
 ghost use Rattle.mp_record.specs.Appends.{Appends, AppendsFront, AppendsBut};
 ghost use Rattle.mp_record.specs.ItemText.{item_text};
+ghost use Rattle.mp_record.specs.declared.print.PrintFault.TheVariants as print_fault;
 
-use crate::item_text::push_item;
+use crate::digits::{PIECE, push_digits};
+use crate::item_text::{push_ask, push_event};
+use crate::reply_text::{data_of, push_reply_start};
 use crate::write::write_all;
-use mount_model::{Item, Record};
+use mount_model::{Answered, Item, Record};
 use mp_io::Sink;
-use std::alloc::Global;
+use std::alloc::{AllocError, Global};
 
 /// Why a record was not printed as a whole.
 #[derive(Clone, Copy, Debug, PartialEq, Eq)]
@@ -17,6 +21,14 @@ pub enum PrintFault {
     Sink,
     /// There was no memory for a piece of the text.
     Memory,
+}
+
+impl From<AllocError> for PrintFault {
+    ghost from_gives = { λ _ fault. fault ≡ print_fault.Memory };
+
+    fn from(_error: AllocError) -> PrintFault {
+        PrintFault::Memory
+    }
 }
 
 /// So many bytes of text are gathered before they are written.
@@ -52,6 +64,54 @@ fn send_full<K: Sink>(gathered: &mut Vec<u8>, sink: &mut K) -> Result<(), PrintF
     send(gathered, sink)
 }
 
+/// Gathers bytes in hexadecimal. They are written by pieces, so that their text never stands whole in memory.
+fn print_digits<K: Sink>(
+    gathered: &mut Vec<u8>,
+    bytes: &[u8],
+    sink: &mut K,
+) -> Result<(), PrintFault>
+    ensures rest { OnOk result (AppendsBut (K.held sink.old) (gathered.old.items ++ encode_lower bytes.now) gathered.new.items (K.held sink.new)) }
+    ensures front { AppendsFront (K.held sink.old) (gathered.old.items ++ encode_lower bytes.now) (K.held sink.new) }
+    ensures faults_grow { K.faults sink.old ≤ K.faults sink.new }
+    ensures failed { IsErrOf result PrintFault.Sink → HasRisen (K.faults sink.old) (K.faults sink.new) }
+{
+    for piece in bytes.chunks(PIECE) {
+        push_digits(gathered, piece)?;
+        send_full(gathered, sink)?;
+    }
+    Ok(())
+}
+
+/// Gathers a reply's line. What is left in `gathered` is the rest of the text.
+fn print_reply<K: Sink>(
+    gathered: &mut Vec<u8>,
+    answered: &Answered,
+    sink: &mut K,
+) -> Result<(), PrintFault>
+    ensures rest { OnOk result (AppendsBut (K.held sink.old) (gathered.old.items ++ reply_text answered.now) gathered.new.items (K.held sink.new)) }
+    ensures front { AppendsFront (K.held sink.old) (gathered.old.items ++ reply_text answered.now) (K.held sink.new) }
+    ensures faults_grow { K.faults sink.old ≤ K.faults sink.new }
+    ensures failed { IsErrOf result PrintFault.Sink → HasRisen (K.faults sink.old) (K.faults sink.new) }
+{
+    push_reply_start(gathered, answered)?;
+    print_digits(gathered, data_of(&answered.reply), sink)?;
+    Ok(gathered.extend_from_slice(b"\n")?)
+}
+
+/// Gathers an item's text. What is left in `gathered` is the rest of the text.
+fn print_item<K: Sink>(gathered: &mut Vec<u8>, item: &Item, sink: &mut K) -> Result<(), PrintFault>
+    ensures rest { OnOk result (AppendsBut (K.held sink.old) (gathered.old.items ++ item_text item.now) gathered.new.items (K.held sink.new)) }
+    ensures front { AppendsFront (K.held sink.old) (gathered.old.items ++ item_text item.now) (K.held sink.new) }
+    ensures faults_grow { K.faults sink.old ≤ K.faults sink.new }
+    ensures failed { IsErrOf result PrintFault.Sink → HasRisen (K.faults sink.old) (K.faults sink.new) }
+{
+    match item {
+        Item::Event(event) => Ok(push_event(gathered, event)?),
+        Item::Ask(ask) => Ok(push_ask(gathered, ask)?),
+        Item::Reply(answered) => print_reply(gathered, answered, sink),
+    }
+}
+
 /// What is left in `gathered` is the rest of the text.
 fn print_items<K: Sink>(
     gathered: &mut Vec<u8>,
@@ -65,10 +125,7 @@ fn print_items<K: Sink>(
     ensures failed { IsErrOf result PrintFault.Sink → HasRisen (K.faults sink.old) (K.faults sink.new) }
 {
     for item in items {
-        match push_item(gathered, item) {
-            Ok(()) => {}
-            Err(_) => return Err(PrintFault::Memory),
-        }
+        print_item(gathered, item, sink)?;
         send_full(gathered, sink)?;
     }
     Ok(())
@@ -90,7 +147,8 @@ pub fn print_record<K: Sink>(alloc: Global, record: &Record, sink: &mut K) -> Re
 mod tests {
     use super::*;
     use bucket_model::Brief;
-    use mount_model::{Answered, Ask, AskedCall, Event, Owner, Reply};
+    use bytes::Bytes;
+    use mount_model::{Ask, AskedCall, Event, Owner, Reply};
     use mp_io::MemSink;
     use mp_types::{ETag, Key};
     use std::test::Fail;
@@ -128,6 +186,108 @@ mod tests {
             sink.held(),
             b"B 1 0\nA 1 L1 put a 5\nT 1 0 0\nD 1 0 made v1\nR 1 made v1\n".as_slice()
         );
+        Ok(())
+    }
+
+    #[test]
+    fn prints_a_read_and_a_deletion(rt: HostRuntime) -> Result<(), Fail> {
+        let mut record = Record::new(rt.alloc());
+        record.make_room(10)?;
+        record.event(Event::Done {
+            job: 2,
+            position: 3,
+            answer: Brief::Found {
+                etag: ETag::parse("v1")?,
+                size: 4,
+            },
+        });
+        record.ask(Ask {
+            job: 3,
+            owner: Owner::Stream(7),
+            call: AskedCall::Get {
+                key: Key::parse(rt.alloc(), "a b")?,
+                etag: ETag::parse("v1")?,
+                from: 1,
+                to: 4,
+            },
+        });
+        record.reply(Answered {
+            line: 7,
+            reply: Reply::Open { size: 4 },
+        });
+        record.event(Event::Done {
+            job: 3,
+            position: 4,
+            answer: Brief::Bytes { length: 3 },
+        });
+        record.ask(Ask {
+            job: 4,
+            owner: Owner::Line(9),
+            call: AskedCall::Delete {
+                key: Key::parse(rt.alloc(), "a b")?,
+            },
+        });
+        record.reply(Answered {
+            line: 8,
+            reply: Reply::Data(Bytes::from_vec(Vec::from_slice(rt.alloc(), &[0, 171, 255])?)?),
+        });
+        record.event(Event::Done {
+            job: 4,
+            position: 5,
+            answer: Brief::Gone,
+        });
+        record.reply(Answered {
+            line: 9,
+            reply: Reply::Gone,
+        });
+        record.event(Event::Done {
+            job: 5,
+            position: 6,
+            answer: Brief::Changed,
+        });
+        record.reply(Answered {
+            line: 10,
+            reply: Reply::Data(Bytes::from_vec(Vec::new(rt.alloc()))?),
+        });
+        let mut sink = MemSink::new(rt.alloc(), 200, 7, Vec::new(rt.alloc()))?;
+        assert_eq!(rt; print_record(rt.alloc(), &record, &mut sink), Ok(()));
+        assert_eq!(rt;
+            sink.held(),
+            b"D 2 3 found v1 4\nA 3 S7 get a%20b v1 1 4\nR 7 open 4\nD 3 4 bytes 3\nA 4 L9 delete a%20b\nR 8 data x00abff\nD 4 5 gone\nR 9 gone\nD 5 6 changed\nR 10 data x\n".as_slice()
+        );
+        Ok(())
+    }
+
+    // The record of a read of more bytes than are gathered.
+    fn long_read(alloc: Global) -> Result<Record, Fail> {
+        let mut record = Record::new(alloc);
+        record.make_room(2)?;
+        record.event(Event::Begin { line: 1, time: 0 });
+        record.reply(Answered {
+            line: 1,
+            reply: Reply::Data(Bytes::from_vec(vec![in alloc; 165u8; 40_000]?)?),
+        });
+        Ok(record)
+    }
+
+    #[test]
+    fn writes_data_by_pieces(rt: HostRuntime) -> Result<(), Fail> {
+        let mut text = Vec::from_slice(rt.alloc(), b"B 1 0\nR 1 data x")?;
+        for _ in 0..40_000usize {
+            text.extend_from_slice(b"a5")?;
+        }
+        text.extend_from_slice(b"\n")?;
+        let record = long_read(rt.alloc())?;
+        let mut sink = MemSink::new(rt.alloc(), 100_000, 100_000, Vec::new(rt.alloc()))?;
+        assert_eq!(rt; print_record(rt.alloc(), &record, &mut sink), Ok(()));
+        assert_eq!(rt; sink.held(), text.as_slice());
+        let fails = vec![in rt.alloc(); 2u64]?;
+        let mut sink = MemSink::new(rt.alloc(), 100_000, 100_000, fails)?;
+        assert_eq!(rt;
+            print_record(rt.alloc(), &record, &mut sink),
+            Err(PrintFault::Sink)
+        );
+        assert_eq!(rt; sink.held().len(), 65_552);
         Ok(())
     }
 

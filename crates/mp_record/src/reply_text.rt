@@ -1,5 +1,6 @@
 ghost use Rattle.std.specs.Prelude.{◌≡◌, ◌++◌, codes, decimal, OnOk};
-ghost use Rattle.mount_model.specs.RecordText.{errno_text, said_text, reply_text};
+ghost use Rattle.mount_model.specs.RecordText.{errno_text};
+ghost use Rattle.mp_record.specs.ItemText.{data_in, said_start, reply_start};
 
 use crate::item_text::{push_made, push_number};
 use mount_model::{Answered, Reply};
@@ -28,8 +29,24 @@ fn push_errno(out: &mut Vec<u8>, errno: Errno) -> Result<(), AllocError>
     }
 }
 
-fn push_said(out: &mut Vec<u8>, reply: &Reply) -> Result<(), AllocError>
-    ensures { OnOk result (out.new.items ≡ out.old.items ++ said_text reply.now) }
+/// The bytes that a reply tells as data.
+pub fn data_of(reply: &Reply) -> &[u8]
+    ensures { result.now ≡ data_in reply.now }
+{
+    match reply {
+        Reply::Data(bytes) => bytes.as_slice(),
+        Reply::Made(_)
+        | Reply::Success
+        | Reply::Directory
+        | Reply::File { .. }
+        | Reply::Open { .. }
+        | Reply::Gone
+        | Reply::Failed(_) => &[],
+    }
+}
+
+fn push_said_start(out: &mut Vec<u8>, reply: &Reply) -> Result<(), AllocError>
+    ensures { OnOk result (out.new.items ≡ out.old.items ++ said_start reply.now) }
 {
     match reply {
         Reply::Made(etag) => push_made(out, etag),
@@ -39,6 +56,12 @@ fn push_said(out: &mut Vec<u8>, reply: &Reply) -> Result<(), AllocError>
             out.extend_from_slice(b"file ")?;
             push_number(out, *size)
         }
+        Reply::Open { size } => {
+            out.extend_from_slice(b"open ")?;
+            push_number(out, *size)
+        }
+        Reply::Data(_) => out.extend_from_slice(b"data x"),
+        Reply::Gone => out.extend_from_slice(b"gone"),
         Reply::Failed(errno) => {
             out.extend_from_slice(b"err ")?;
             push_errno(out, *errno)
@@ -46,12 +69,12 @@ fn push_said(out: &mut Vec<u8>, reply: &Reply) -> Result<(), AllocError>
     }
 }
 
-pub fn push_reply(out: &mut Vec<u8>, answered: &Answered) -> Result<(), AllocError>
-    ensures { OnOk result (out.new.items ≡ out.old.items ++ reply_text answered.now) }
+/// The line of a reply up to its data.
+pub fn push_reply_start(out: &mut Vec<u8>, answered: &Answered) -> Result<(), AllocError>
+    ensures { OnOk result (out.new.items ≡ out.old.items ++ reply_start answered.now) }
 {
     out.extend_from_slice(b"R ")?;
     push_number(out, u64::from(answered.line))?;
     out.extend_from_slice(b" ")?;
-    push_said(out, &answered.reply)?;
-    out.extend_from_slice(b"\n")
+    push_said_start(out, &answered.reply)
 }

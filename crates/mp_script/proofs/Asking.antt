@@ -1,9 +1,10 @@
 -- Words, and the request that they spell.
-use Rattle.std.proofs.Common.{◌≡◌, ℕ, List, [], ◌∷◌, Ok, Err, refl}
+use Rattle.std.proofs.Common.{◌≡◌, ℕ, ◌<◌, false, List, [], ◌∷◌, codes, Result, Ok, Err, refl, arith}
+use Rattle.std.proofs.lemmas.Bool.{ne_eqb}
 use Rattle.mount_model.specs.declared.fault.ScriptCause.{ScriptCause}
 use Rattle.mount_model.specs.declared.fault.ScriptCause.TheVariants as cause
 use Rattle.mount_model.specs.declared.request.Request.{Request}
-use Rattle.mount_model.specs.ScriptText.{await_of, actor_of, request_of, words_request, words_asked}
+use Rattle.mount_model.specs.ScriptText.{is_word, change_of, asked_by_process, await_of, actor_of, request_of, words_request, words_asked}
 use Rattle.mp_script.specs.declared.fault.Fault.{Fault}
 use Rattle.mp_script.specs.declared.fault.Fault.TheVariants as fault
 use Rattle.mp_script.specs.Reads.{Fails, asked}
@@ -13,8 +14,8 @@ use Rattle.mp_script.proofs.Pieces.{has_first}
 pub awaits_none : (text : List ℕ) → await_of (words_of text) ≡ Err cause.Words
 awaits_none text = rw (has_first 32 text).is_parted refl
 
-pub verb_fails : (actor : ℕ) (parts : List (List ℕ)) (verb : List ℕ) (words : List (List ℕ)) (why : ScriptCause) → parts ≡ verb ∷ words → request_of actor verb words ≡ Err why → words_request actor parts ≡ Err why
-verb_fails actor parts verb words why e h = rw e h
+pub verb_reads : (actor : ℕ) (parts : List (List ℕ)) (verb : List ℕ) (words : List (List ℕ)) (read : Result Request ScriptCause) → parts ≡ verb ∷ words → request_of actor verb words ≡ read → words_request actor parts ≡ read
+verb_reads actor parts verb words read e h = rw e h
 
 pub actor_fails : (parts : List (List ℕ)) (first : List ℕ) (words : List (List ℕ)) (why : ScriptCause) → parts ≡ first ∷ words → Err why ≡ actor_of first → words_asked parts ≡ Err why
 actor_fails parts first words why e h = rw (e, ← h) refl
@@ -28,3 +29,11 @@ request_fails (fault.Cause why) parts first words actor e h fails = rw (e, ← h
 
 pub is_asked : (request : Request) (parts : List (List ℕ)) (first : List ℕ) (words : List (List ℕ)) (actor : ℕ) → parts ≡ first ∷ words → Ok actor ≡ actor_of first → words_request actor words ≡ Ok request → words_asked parts ≡ Ok (asked (actor, request))
 is_asked request parts first words actor e h is = rw (e, ← h, is) refl
+
+-- ---- the verbs of an actor
+
+pub others_ask : (actor : ℕ) (word : List ℕ) (words : List (List ℕ)) → is_word word (codes "await") ≡ false → actor ≡ 0 → request_of actor word words ≡ change_of word words
+others_ask actor word words other zero = rw (other, zero) refl
+
+pub process_asks : (actor : ℕ) (word : List ℕ) (words : List (List ℕ)) → is_word word (codes "await") ≡ false → 0 < actor → request_of actor word words ≡ asked_by_process word words
+process_asks actor word words other some = rw (other, ne_eqb actor 0 (λ zero. absurd (omega arith))) refl

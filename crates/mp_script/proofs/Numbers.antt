@@ -1,4 +1,4 @@
--- Numbers that stop at 1,000, and bytes that stand for themselves.
+-- Numbers that stop at a greatest one, and bytes that stand for themselves.
 use Rattle.std.proofs.Common.{◌≡◌, ℕ, zero, suc, ◌+◌, ◌-◌, ◌*◌, ◌<◌, ◌≤◌, Bool, true, false, not, ◌&&◌, eqb, leb, List, [], ◌∷◌, length, drop, get_or, min, refl, sym, ap, ◌∙◌, arith, add-one, drop-cons, lit<}
 use Rattle.std.specs.List.{fold, list_all}
 use Rattle.std.specs.Str.{IsAscii}
@@ -8,16 +8,16 @@ use Rattle.mount_model.specs.RecordText.{is_plain}
 abbrev pub more : ℕ → ℕ → ℕ
 more n digit = 10 * n + (digit - 48)
 
-pub capped : (a b : ℕ) (digits : List ℕ) → min 1000 a ≡ min 1000 b → min 1000 (fold more a digits) ≡ min 1000 (fold more b digits)
-capped a b [] same = same
-capped a b (digit ∷ digits) same = capped (more a digit) (more b digit) digits (omega arith)
+capped : (most a b : ℕ) (digits : List ℕ) → min most a ≡ min most b → min most (fold more a digits) ≡ min most (fold more b digits)
+capped most a b [] same = same
+capped most a b (digit ∷ digits) same = capped most (more a digit) (more b digit) digits (omega arith)
 
-pub next_digit : (number now i total : ℕ) (digits : List ℕ) → i < length digits → now ≡ min (10 * number + (get_or digits i 0 - 48)) 1000
-    → min 1000 (fold more number (drop i digits)) ≡ total → min 1000 (fold more now (drop (i + 1) digits)) ≡ total
-next_digit number now i total digits lt is so_far =
+pub next_digit : (most number now i total : ℕ) (digits : List ℕ) → i < length digits → now ≡ min most (10 * number + (get_or digits i 0 - 48))
+    → min most (fold more number (drop i digits)) ≡ total → min most (fold more now (drop (i + 1) digits)) ≡ total
+next_digit most number now i total digits lt is so_far =
     let here : fold more number (drop i digits) ≡ fold more (more number (get_or digits i 0)) (drop (i + 1) digits) = rw (drop-cons digits i 0 lt, add-one) refl in
-    let same : min 1000 now ≡ min 1000 (more number (get_or digits i 0)) = omega arith in
-    capped now (more number (get_or digits i 0)) (drop (i + 1) digits) same ∙ ap (λ (n : ℕ). min 1000 n) (sym here) ∙ so_far
+    let same : min most now ≡ min most (more number (get_or digits i 0)) = omega arith in
+    capped most now (more number (get_or digits i 0)) (drop (i + 1) digits) same ∙ ap (λ (n : ℕ). min most n) (sym here) ∙ so_far
 
 -- ---- plain bytes are ASCII
 

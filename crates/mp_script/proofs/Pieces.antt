@@ -1,13 +1,12 @@
 -- Bytes cut at their first separator.
-use Rattle.std.proofs.Common.{◌≡◌, ℕ, ◌+◌, ◌<◌, ◌≤◌, Bool, true, false, cond, ◌&&◌, ◌||◌, eqb, ltb, List, [], ◌∷◌, ◌++◌, length, take, drop, get_or, Some, None, Err, refl, sym, ap, subst, ◌∙◌, arith, add-one, drop-cons, eqb-true, eq-eqb}
+use Rattle.std.proofs.Common.{◌≡◌, ◌≢◌, ℕ, suc, ◌+◌, ◌<◌, ◌≤◌, Bool, true, false, cond, ◌&&◌, ◌||◌, eqb, ltb, List, [], ◌∷◌, ◌++◌, length, take, drop, get_or, Some, None, refl, sym, ap, subst, ◌∙◌, arith, add-one, drop-cons, eqb-true, eq-eqb}
 use Rattle.std.proofs.Math.Dec.{eqb-suc-zero}
 use Rattle.std.specs.List.{list_any, slice_split, onto_first, position, position_or_len}
-use Rattle.std.proofs.lemmas.Bool.{ltb-true, ltb-false}
+use Rattle.std.proofs.lemmas.Bool.{ltb-true, ltb-false, lt-ltb}
 use Rattle.std.proofs.lemmas.List.{take-append-drop, length-take, get_or-take}
 use Rattle.std.proofs.lemmas.List.Folds.{list_any_none}
 use Rattle.std.proofs.lemmas.List.Sums.{fails_before_first, passes_at_first}
-use Rattle.mount_model.specs.declared.fault.ScriptCause.TheVariants as cause
-use Rattle.mount_model.specs.ScriptText.{lines_of, put_of, stat_of}
+use Rattle.mount_model.specs.ScriptText.{lines_of}
 use Rattle.mp_script.specs.Words.{has, words_of, has_empty}
 
 found_at : (b : Bool) (n at : ℕ) → Some at ≡ cond b (Some n) None → (b ≡ true) × (n ≡ at)
@@ -118,17 +117,23 @@ empties_found i line total lt is so_far =
 
 -- ---- known counts of words
 
-pub one_more : (text before after : List ℕ) → text ≡ before ++ 32 ∷ after → has 32 before ≡ false → stat_of (words_of text) ≡ Err cause.Words
-one_more text before after e none = rw (e, split_cut 32 before after none, (has_first 32 after).is_parted) refl
+pub one_word : (text : List ℕ) (n : ℕ) → has 32 text ≡ false → 1 < n → length (words_of text) ≢ n
+one_word text n none lt is = let one : length (words_of text) ≡ 1 = rw (split_one 32 text none) refl in absurd (omega arith)
 
-pub two_less : (text : List ℕ) → has 32 text ≡ false → put_of (words_of text) ≡ Err cause.Words
-two_less text none = rw (split_one 32 text none) refl
+pub one_more : (text before after : List ℕ) → text ≡ before ++ 32 ∷ after → has 32 before ≡ false → length (words_of text) ≢ 1
+one_more text before after e none is =
+    let more = has_first 32 after in
+    let two : length (words_of text) ≡ suc (suc (length more.others)) = rw (split_parts 32 text before after e none, more.is_parted) refl in
+    absurd (omega arith)
 
-pub two_more : (text before after second third : List ℕ) → text ≡ before ++ 32 ∷ after → has 32 before ≡ false → after ≡ second ++ 32 ∷ third → has 32 second ≡ false → put_of (words_of text) ≡ Err cause.Words
-two_more text before after second third e none e-after none-second = rw (e, split_cut 32 before after none, e-after, split_cut 32 second third none-second, (has_first 32 third).is_parted) refl
+-- one word more than behind the first
+pub other_count : (text before after : List ℕ) (n : ℕ) → text ≡ before ++ 32 ∷ after → has 32 before ≡ false → length (words_of after) ≢ n → length (words_of text) ≢ n + 1
+other_count text before after n e none other is =
+    let one : length (words_of text) ≡ suc (length (words_of after)) = rw (split_parts 32 text before after e none) refl in
+    other (omega arith)
 
-pub two_are : (text before after : List ℕ) → text ≡ before ++ 32 ∷ after → has 32 before ≡ false → has 32 after ≡ false → words_of text ≡ before ∷ after ∷ []
-two_are text before after e none none-after = rw (e, split_cut 32 before after none, split_one 32 after none-after) refl
+pub words_are : (text before after : List ℕ) (words : List (List ℕ)) → text ≡ before ++ 32 ∷ after → has 32 before ≡ false → words_of after ≡ words → words_of text ≡ before ∷ words
+words_are text before after words e none are = split_parts 32 text before after e none ∙ ap (λ (t : List (List ℕ)). before ∷ t) are
 
 -- ---- the lines
 
@@ -157,3 +162,15 @@ last_line byte (next ∷ bytes) none = step (eqb byte 10) none (last_line next b
 pub only_line : (bytes : List ℕ) → 0 < length bytes → has 10 bytes ≡ false → lines_of bytes ≡ bytes ∷ []
 only_line [] lt none = absurd (omega arith)
 only_line (byte ∷ bytes) lt none = last_line byte bytes none
+
+some_lines : (bytes : List ℕ) → 0 < length bytes → 0 < length (lines_of bytes)
+some_lines [] some = absurd (omega arith)
+some_lines (byte ∷ bytes) some = step (eqb byte 10) (lines_of bytes)
+  where
+    step : (b : Bool) (below : List (List ℕ)) → 0 < length (cond b ([] ∷ below) (onto_first byte below))
+    step true below = omega arith
+    step false [] = omega arith
+    step false (line ∷ lines) = omega arith
+
+pub lines_over : (bytes : List ℕ) (left : ℕ) → 0 < length bytes → left ≡ 0 → ltb left (length (lines_of bytes)) ≡ true
+lines_over bytes left some none = lt-ltb left (length (lines_of bytes)) (omega (arith, some_lines bytes some))

@@ -2,9 +2,10 @@
 use Rattle.std.specs.Prelude.{◌≡◌, ℕ, ◌+◌, ◌<◌, ◌≤◌, List, ◌∷◌, ◌++◌, length, Result, Ok, Err}
 use Rattle.std.specs.Global.{Vec}
 use Rattle.mount_model.specs.declared.fault.ScriptCause.{ScriptCause}
-use Rattle.mount_model.specs.declared.fault.What.TheVariants.{Bytes}
+use Rattle.mount_model.specs.declared.fault.What.TheVariants.{Bytes, Lines, Reads}
 use Rattle.mount_model.specs.declared.request.Request.{Request}
 use Rattle.mount_model.specs.declared.request.Line.{Line}
+use Rattle.mount_model.specs.ScriptText as script
 use Rattle.mount_model.specs.ScriptText.{Asked, BadLine, max_script_bytes, script_from, script_of}
 use Rattle.mp_script.specs.declared.fault.Fault.{Fault}
 use Rattle.mp_script.specs.declared.fault.Fault.TheVariants as fault
@@ -41,9 +42,11 @@ ReadsLines (Err (Bad line cause)) read = read ≡ Err (record { line = line; cau
 ReadsLines (Err (TooLong what)) read = ⊥
 ReadsLines (Err Memory) read = Unit {0}
 
--- the lines that the bytes spell, or the first bad line and its cause, unless memory ran out
+-- the lines that the bytes spell, or why they spell none, unless memory ran out
 abbrev pub ReadsScript : List ℕ → Result (List Line) ScriptError → Type 0
-ReadsScript bytes (Ok script) = (length bytes ≤ max_script_bytes) × (script_of bytes ≡ Ok script)
-ReadsScript bytes (Err (Bad line cause)) = (length bytes ≤ max_script_bytes) × (script_of bytes ≡ Err (record { line = line; cause = cause }))
+ReadsScript bytes (Ok lines) = (length bytes ≤ max_script_bytes) × (script_of bytes ≡ Ok lines)
+ReadsScript bytes (Err (Bad line cause)) = (length bytes ≤ max_script_bytes) × (script_of bytes ≡ Err (script.Bad line cause))
 ReadsScript bytes (Err (TooLong Bytes)) = max_script_bytes < length bytes
+ReadsScript bytes (Err (TooLong Lines)) = (length bytes ≤ max_script_bytes) × (script_of bytes ≡ Err (script.TooLong Lines))
+ReadsScript bytes (Err (TooLong Reads)) = (length bytes ≤ max_script_bytes) × (script_of bytes ≡ Err (script.TooLong Reads))
 ReadsScript bytes (Err Memory) = Unit {0}

@@ -1,11 +1,11 @@
 -- Words and verbs.
-use Rattle.std.specs.Prelude.{ℕ, List, Bool, ◌==◌, length, Result}
+use Rattle.std.specs.Prelude.{ℕ, List, Bool, ◌&&◌, ◌==◌, nat_le, length, Result}
 use Rattle.std.specs.List.{list_any, slice_split}
 use Rattle.mount_model.specs.declared.fault.ScriptCause.{ScriptCause}
 use Rattle.mount_model.specs.declared.request.Request.{Request}
-use Rattle.mount_model.specs.ScriptText.{await_of, stat_of, put_of}
+use Rattle.mount_model.specs.ScriptText.{is_number, number_of, await_of, put_of, delete_of, stat_of, open_of, read_of, close_of}
 use Rattle.mp_script.specs.declared.request.Verb.{Verb}
-use Rattle.mp_script.specs.declared.request.Verb.TheVariants.{Await, Stat, Put}
+use Rattle.mp_script.specs.declared.request.Verb.TheVariants.{Await, Put, Delete, Stat, OpenRead, Read, Close}
 
 abbrev pub has : ℕ → List ℕ → Bool
 has separator text = list_any (λ byte. byte == separator) text
@@ -17,8 +17,15 @@ words_of text = slice_split (λ byte. byte == 32) text
 abbrev pub has_empty : List ℕ → Bool
 has_empty line = list_any (λ word. length word == 0) (words_of line)
 
+abbrev pub is_number_up_to : ℕ → List ℕ → Bool
+is_number_up_to greatest word = is_number word && nat_le (number_of word) greatest
+
 -- the request of a verb, with the words behind it
 abbrev pub verb_request : Verb → List (List ℕ) → Result Request ScriptCause
 verb_request Await words = await_of words
-verb_request Stat words = stat_of words
 verb_request Put words = put_of words
+verb_request Delete words = delete_of words
+verb_request Stat words = stat_of words
+verb_request OpenRead words = open_of words
+verb_request Read words = read_of words
+verb_request Close words = close_of words

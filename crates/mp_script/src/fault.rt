@@ -9,7 +9,7 @@ use std::alloc::{AllocError, AllocFailed};
 pub enum ScriptError {
     /// The first bad line, counted from 1, and the first thing that is wrong with it.
     Bad { line: u32, cause: ScriptCause },
-    /// The script is too long; no line was looked at.
+    /// There is too much of this. Bytes and lines are counted before any line is looked at, reads behind the last line.
     TooLong(What),
     /// No memory.
     Memory,

@@ -1,7 +1,6 @@
-ghost use Rattle.std.specs.Prelude.{◌≡◌, List, ℕ, [], ◌∷◌, Err, MatchOption, MatchResult};
-ghost use Rattle.mount_model.specs.declared.fault.ScriptCause.TheVariants as cause;
+ghost use Rattle.std.specs.Prelude.{◌≡◌, ◌≢◌, List, ℕ, [], ◌∷◌, length, Err, MatchOption, MatchResult};
 ghost use Rattle.mount_model.specs.ScriptText as script;
-ghost use Rattle.mount_model.specs.ScriptText.{request_of, put_of, stat_of, asked_of};
+ghost use Rattle.mount_model.specs.ScriptText.{change_of, asked_by_process, request_of, put_of, delete_of, stat_of, open_of, read_of, close_of, asked_of};
 ghost use Rattle.mp_script.specs.Reads.{Gives, asked};
 ghost use Rattle.mp_script.specs.Words.{words_of, verb_request};
 
@@ -14,8 +13,44 @@ use std::alloc::Global;
 #[derive(Clone, Copy, Debug, PartialEq, Eq)]
 pub enum Verb {
     Await,
-    Stat,
     Put,
+    Delete,
+    Stat,
+    OpenRead,
+    Read,
+    Close,
+}
+
+// The verb of a change that the others make.
+fn change_verb(word: &[u8]) -> Result<Verb, ScriptCause>
+    ensures { (words : List (List ℕ)) → MatchResult result (λ verb. change_of word.now words ≡ verb_request verb words) (λ cause. change_of word.now words ≡ Err cause) }
+{
+    if word == b"put".as_slice() {
+        return Ok(Verb::Put);
+    }
+    if word == b"delete".as_slice() {
+        return Ok(Verb::Delete);
+    }
+    Err(ScriptCause::Verb)
+}
+
+// The verb of what a process asks for.
+fn process_verb(word: &[u8]) -> Result<Verb, ScriptCause>
+    ensures { (words : List (List ℕ)) → MatchResult result (λ verb. asked_by_process word.now words ≡ verb_request verb words) (λ cause. asked_by_process word.now words ≡ Err cause) }
+{
+    if word == b"stat".as_slice() {
+        return Ok(Verb::Stat);
+    }
+    if word == b"openr".as_slice() {
+        return Ok(Verb::OpenRead);
+    }
+    if word == b"read".as_slice() {
+        return Ok(Verb::Read);
+    }
+    if word == b"close".as_slice() {
+        return Ok(Verb::Close);
+    }
+    Err(ScriptCause::Verb)
 }
 
 // The verb, where this actor has it.
@@ -25,18 +60,15 @@ fn verb_of(actor: u16, word: &[u8]) -> Result<Verb, ScriptCause>
     if word == b"await".as_slice() {
         return Ok(Verb::Await);
     }
-    if word == b"stat".as_slice() && actor != 0 {
-        return Ok(Verb::Stat);
+    if actor == 0 {
+        return change_verb(word);
     }
-    if word == b"put".as_slice() && actor == 0 {
-        return Ok(Verb::Put);
-    }
-    Err(ScriptCause::Verb)
+    process_verb(word)
 }
 
 // The text as its only word.
 fn one_word(text: &[u8]) -> Option<&[u8]>
-    ensures { MatchOption result (stat_of (words_of text.now) ≡ Err cause.Words) (λ word. words_of text.now ≡ word.now ∷ []) }
+    ensures { MatchOption result (length (words_of text.now) ≢ 1) (λ word. words_of text.now ≡ word.now ∷ []) }
 {
     match cut(text, b' ') {
         None => Some(text),
@@ -46,13 +78,29 @@ fn one_word(text: &[u8]) -> Option<&[u8]>
 
 // The text's only two words.
 fn two_words(text: &[u8]) -> Option<Parted<'_>>
-    ensures { MatchOption result (put_of (words_of text.now) ≡ Err cause.Words) (λ p. words_of text.now ≡ p.before.now ∷ p.after.now ∷ []) }
+    ensures { MatchOption result (length (words_of text.now) ≢ 2) (λ p. words_of text.now ≡ p.before.now ∷ p.after.now ∷ []) }
 {
     match cut(text, b' ') {
         None => None,
-        Some(parted) => match cut(parted.after, b' ') {
-            None => Some(parted),
-            Some(_) => None,
+        Some(parted) => match one_word(parted.after) {
+            None => None,
+            Some(second) => Some(Parted {
+                before: parted.before,
+                after: second,
+            }),
+        },
+    }
+}
+
+// The text's first word, and the two behind it, where there are no more.
+fn three_words(text: &[u8]) -> Option<(&[u8], Parted<'_>)>
+    ensures { MatchOption result (length (words_of text.now) ≢ 3) (λ p. words_of text.now ≡ p.0.now ∷ p.1.before.now ∷ p.1.after.now ∷ []) }
+{
+    match cut(text, b' ') {
+        None => None,
+        Some(parted) => match two_words(parted.after) {
+            None => None,
+            Some(others) => Some((parted.before, others)),
         },
     }
 }
@@ -70,6 +118,18 @@ fn put(alloc: Global, text: &[u8]) -> Result<Request, Fault>
     }
 }
 
+fn delete(alloc: Global, text: &[u8]) -> Result<Request, Fault>
+    ensures { Gives (λ r. r) result (delete_of (words_of text.now)) }
+{
+    match one_word(text) {
+        None => Err(Fault::Cause(ScriptCause::Words)),
+        Some(word) => {
+            let key = word::key(alloc, word)?;
+            Ok(Request::Delete { key })
+        }
+    }
+}
+
 fn stat(alloc: Global, text: &[u8]) -> Result<Request, Fault>
     ensures { Gives (λ r. r) result (stat_of (words_of text.now)) }
 {
@@ -82,13 +142,58 @@ fn stat(alloc: Global, text: &[u8]) -> Result<Request, Fault>
     }
 }
 
+fn open_read(alloc: Global, text: &[u8]) -> Result<Request, Fault>
+    ensures { Gives (λ r. r) result (open_of (words_of text.now)) }
+{
+    match two_words(text) {
+        None => Err(Fault::Cause(ScriptCause::Words)),
+        Some(parted) => {
+            let handle = word::handle(parted.before)?;
+            let path = word::path(alloc, parted.after)?;
+            Ok(Request::OpenRead { handle, path })
+        }
+    }
+}
+
+fn read(text: &[u8]) -> Result<Request, ScriptCause>
+    ensures { result ≡ read_of (words_of text.now) }
+{
+    match three_words(text) {
+        None => Err(ScriptCause::Words),
+        Some((name, range)) => {
+            let handle = word::handle(name)?;
+            let offset = word::number(range.before)?;
+            let count = word::number(range.after)?;
+            Ok(Request::Read {
+                handle,
+                offset,
+                count,
+            })
+        }
+    }
+}
+
+fn close(text: &[u8]) -> Result<Request, ScriptCause>
+    ensures { result ≡ close_of (words_of text.now) }
+{
+    match one_word(text) {
+        None => Err(ScriptCause::Words),
+        Some(word) => {
+            let handle = word::handle(word)?;
+            Ok(Request::Close { handle })
+        }
+    }
+}
+
 // The request of a verb with nothing behind it.
 fn bare_request(verb: Verb) -> Result<Request, ScriptCause>
     ensures { result ≡ verb_request verb [] }
 {
     match verb {
         Verb::Await => Ok(Request::Await),
-        Verb::Stat | Verb::Put => Err(ScriptCause::Words),
+        Verb::Put | Verb::Delete | Verb::Stat | Verb::OpenRead | Verb::Read | Verb::Close => {
+            Err(ScriptCause::Words)
+        }
     }
 }
 
@@ -98,8 +203,12 @@ fn request(alloc: Global, verb: Verb, text: &[u8]) -> Result<Request, Fault>
 {
     match verb {
         Verb::Await => Err(Fault::Cause(ScriptCause::Words)),
-        Verb::Stat => stat(alloc, text),
         Verb::Put => put(alloc, text),
+        Verb::Delete => delete(alloc, text),
+        Verb::Stat => stat(alloc, text),
+        Verb::OpenRead => open_read(alloc, text),
+        Verb::Read => Ok(read(text)?),
+        Verb::Close => Ok(close(text)?),
     }
 }
 

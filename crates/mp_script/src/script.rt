@@ -1,12 +1,12 @@
-ghost use Rattle.std.specs.Prelude.{◌≡◌, ◌<◌, ◌≤◌, ◌∷◌, length, IfOk};
+ghost use Rattle.std.specs.Prelude.{◌≡◌, ◌<◌, ◌≤◌, ◌∷◌, length, nat_lt, IfOk};
 ghost use Rattle.mount_model.specs.Run.{AreRising};
-ghost use Rattle.mount_model.specs.ScriptText.{max_script_bytes, lines_of, script_of};
+ghost use Rattle.mount_model.specs.ScriptText.{max_script_bytes, max_lines, max_read_bytes, lines_of, script_from, count_in, bytes_asked};
 ghost use Rattle.mp_script.specs.Reads.{ReadsScript, ReadsLines, AddsLine};
 
 use crate::cut::{Parted, cut};
 use crate::fault::{Fault, ScriptError};
 use crate::request::asked;
-use mount_model::{Line, Script, What};
+use mount_model::{Line, Request, Script, What};
 use mp_types::Items;
 use std::alloc::Global;
 
@@ -23,6 +23,52 @@ fn first_line(bytes: &[u8]) -> Parted<'_>
             after: &[],
         },
     }
+}
+
+// Whether there are more lines than a script may have. No more are counted.
+fn has_too_many_lines(bytes: &[u8]) -> bool
+    ensures { result ≡ nat_lt max_lines (length (lines_of bytes.now)) }
+{
+    let mut left = 65_536u32;
+    let mut rest = bytes;
+    while !rest.is_empty() {
+        if left == 0 {
+            return true;
+        }
+        left -= 1;
+        rest = first_line(rest).after;
+    }
+    false
+}
+
+// How many bytes a request asks to read.
+fn count_in(request: &Request) -> u64
+    ensures { result ≡ count_in request.now }
+{
+    match request {
+        Request::Read { count, .. } => *count,
+        Request::Put { .. }
+        | Request::Await
+        | Request::Stat { .. }
+        | Request::OpenRead { .. }
+        | Request::Close { .. }
+        | Request::Delete { .. } => 0,
+    }
+}
+
+// Whether the lines ask to read more than a script may ask for.
+fn reads_too_much(lines: &[Line]) -> bool
+    ensures { result ≡ nat_lt max_read_bytes (bytes_asked lines.now) }
+{
+    let mut left = 268_435_456u64;
+    for line in lines {
+        let count = count_in(&line.request);
+        if count > left {
+            return true;
+        }
+        left -= count;
+    }
+    false
 }
 
 // Adds the line of this number to those above it, unless it holds no request.
@@ -59,7 +105,7 @@ fn add_line(
 
 fn read_lines(alloc: Global, bytes: &[u8]) -> Result<Vec<Line>, ScriptError>
     requires { length bytes.now ≤ max_script_bytes }
-    ensures { ReadsLines result (script_of bytes.now) }
+    ensures { ReadsLines result (script_from 1 (lines_of bytes.now)) }
 {
     let mut lines = Vec::new(alloc);
     let mut rest = bytes;
@@ -74,7 +120,8 @@ fn read_lines(alloc: Global, bytes: &[u8]) -> Result<Vec<Line>, ScriptError>
 }
 
 /// The lines that the bytes spell, numbered from 1 by their place in the text.
-/// A script has at most 67,108,864 bytes.
+/// A script has at most 67,108,864 bytes and 65,536 lines. Its reads ask for at most 268,435,456 bytes together.
+/// Of several faults it is the first of these that is told: too many bytes, too many lines, the first bad line, too much to read.
 pub fn read_script(alloc: Global, bytes: &[u8]) -> Result<Script, ScriptError>
     ensures reads { ReadsScript bytes.now result }
     ensures rising { IfOk result (AreRising 0) }
@@ -82,6 +129,12 @@ pub fn read_script(alloc: Global, bytes: &[u8]) -> Result<Script, ScriptError>
     if bytes.len() > 67_108_864 {
         return Err(ScriptError::TooLong(What::Bytes));
     }
+    if has_too_many_lines(bytes) {
+        return Err(ScriptError::TooLong(What::Lines));
+    }
     let lines = read_lines(alloc, bytes)?;
+    if reads_too_much(lines.as_slice()) {
+        return Err(ScriptError::TooLong(What::Reads));
+    }
     Ok(Items::from_vec(lines))
 }

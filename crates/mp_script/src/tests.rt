@@ -1,5 +1,5 @@
 use super::*;
-use mount_model::{Request, ScriptCause};
+use mount_model::{Request, ScriptCause, What};
 use mp_types::Data;
 use std::alloc::Global;
 use std::test::*;
@@ -37,6 +37,42 @@ fn each_verb_is_read(rt: HostRuntime) -> Result<(), Fail> {
         return Err("the third line is a stat".into());
     };
     assert_eq!(rt; path.as_str(), "/a");
+    Ok(())
+}
+
+#[test]
+fn reads_and_deletions_are_read(rt: HostRuntime) -> Result<(), Fail> {
+    let script = read_script(
+        rt.alloc(),
+        b"1 openr 65535 /a\n1 read 007 9223372036854775807 268435456\n1 close 0\n0 delete a",
+    )
+    .ok()
+    .ok_or("it is a script")?;
+    let [first, second, third, fourth] = script.as_slice() else {
+        return Err("there are four lines".into());
+    };
+    let Request::OpenRead { handle, path } = &first.request else {
+        return Err("the first line is an open".into());
+    };
+    assert_eq!(rt; (*handle, path.as_str()), (65_535, "/a"));
+    let Request::Read {
+        handle,
+        offset,
+        count,
+    } = &second.request
+    else {
+        return Err("the second line is a read".into());
+    };
+    assert_eq!(rt;
+        (*handle, *offset, *count),
+        (7, 9_223_372_036_854_775_807, 268_435_456)
+    );
+    assert!(rt; matches!(third.request, Request::Close { handle: 0 }));
+    assert_eq!(rt; fourth.actor, 0);
+    let Request::Delete { key } = &fourth.request else {
+        return Err("the fourth line is a deletion".into());
+    };
+    assert_eq!(rt; key.as_str(), "a");
     Ok(())
 }
 
@@ -89,10 +125,94 @@ fn the_first_fault_of_a_line_is_told(rt: HostRuntime) {
         (b"0 put a x00".as_slice(), ScriptCause::Data),
         (b"1 stat /".as_slice(), ScriptCause::Path),
         (b"1 stat /a/b".as_slice(), ScriptCause::Path),
+        (b"1 delete a".as_slice(), ScriptCause::Verb),
+        (b"0 delete".as_slice(), ScriptCause::Words),
+        (b"0 delete a b".as_slice(), ScriptCause::Words),
+        (b"0 delete a%20".as_slice(), ScriptCause::Escape),
     ];
     for (line, cause) in cases {
         assert_eq!(rt; fault(rt.alloc(), line), bad(1, cause));
     }
+}
+
+#[test]
+fn the_first_fault_of_a_read_is_told(rt: HostRuntime) {
+    let cases = [
+        (b"0 openr 1 /a".as_slice(), ScriptCause::Verb),
+        (b"0 read 1 0 1".as_slice(), ScriptCause::Verb),
+        (b"0 close 1".as_slice(), ScriptCause::Verb),
+        (b"1 openr 1".as_slice(), ScriptCause::Words),
+        (b"1 openr 1 /a /b".as_slice(), ScriptCause::Words),
+        (b"1 read 1 0".as_slice(), ScriptCause::Words),
+        (b"1 read 1 0 1 1".as_slice(), ScriptCause::Words),
+        (b"1 close".as_slice(), ScriptCause::Words),
+        (b"1 close 1 2".as_slice(), ScriptCause::Words),
+        (b"1 openr 65536 /".as_slice(), ScriptCause::Handle),
+        (b"1 read x 0 x".as_slice(), ScriptCause::Handle),
+        (b"1 close -1".as_slice(), ScriptCause::Handle),
+        (b"1 openr 1 /%".as_slice(), ScriptCause::Escape),
+        (b"1 openr 1 /".as_slice(), ScriptCause::Path),
+        (
+            b"1 read 1 9223372036854775808 1".as_slice(),
+            ScriptCause::Number,
+        ),
+        (
+            b"1 read 1 0 9223372036854775808".as_slice(),
+            ScriptCause::Number,
+        ),
+        (
+            b"1 read 1 9999999999999999999999999999999999999999 1".as_slice(),
+            ScriptCause::Number,
+        ),
+        (
+            b"1 read 1 00000000000000000000000000000000000000000 1".as_slice(),
+            ScriptCause::Number,
+        ),
+    ];
+    for (line, cause) in cases {
+        assert_eq!(rt; fault(rt.alloc(), line), bad(1, cause));
+    }
+    let longest = b"1 read 1 0000000000000000000000000000000000000000 1".as_slice();
+    assert_eq!(rt; fault(rt.alloc(), longest), None);
+}
+
+// What reading so many comments gives, with some lines behind them.
+fn behind_comments(alloc: Global, count: usize, lines: &[u8]) -> Result<Option<ScriptError>, Fail> {
+    let mut script = Vec::new(alloc);
+    for _ in 0..count {
+        script.extend_from_slice(b"#\n")?;
+    }
+    script.extend_from_slice(lines)?;
+    Ok(fault(alloc, script.as_slice()))
+}
+
+#[test]
+fn a_script_has_at_most_65536_lines(rt: HostRuntime) -> Result<(), Fail> {
+    let lines = Some(ScriptError::TooLong(What::Lines));
+    assert_eq!(rt; behind_comments(rt.alloc(), 65_536, b"")?, None);
+    assert_eq!(rt; behind_comments(rt.alloc(), 65_537, b"")?, lines);
+    assert_eq!(rt; behind_comments(rt.alloc(), 65_536, b"1000 await")?, lines);
+    assert_eq!(rt;
+        behind_comments(rt.alloc(), 65_535, b"1000 await")?,
+        bad(65_536, ScriptCause::Actor)
+    );
+    Ok(())
+}
+
+#[test]
+fn reads_have_a_limit_together(rt: HostRuntime) {
+    let reads = Some(ScriptError::TooLong(What::Reads));
+    let most = b"1 read 1 0 268435456".as_slice();
+    assert_eq!(rt; fault(rt.alloc(), most), None);
+    let more = b"1 read 1 0 268435457".as_slice();
+    assert_eq!(rt; fault(rt.alloc(), more), reads);
+    let two = b"1 read 1 0 268435456\n1 read 1 0 0\n2 read 1 0 1".as_slice();
+    assert_eq!(rt; fault(rt.alloc(), two), reads);
+    let greatest =
+        b"1 read 1 0 9223372036854775807\n1 read 1 0 9223372036854775807\n1 read 1 0 9223372036854775807".as_slice();
+    assert_eq!(rt; fault(rt.alloc(), greatest), reads);
+    let bad_too = b"1 read 1 0 268435457\n1 frob".as_slice();
+    assert_eq!(rt; fault(rt.alloc(), bad_too), bad(2, ScriptCause::Verb));
 }
 
 // A put to a key of this many bytes.

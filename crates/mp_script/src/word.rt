@@ -1,8 +1,9 @@
-ghost use Rattle.std.specs.Prelude.{◌≡◌, min, MatchResult, Ok, Err};
+ghost use Rattle.std.specs.Prelude.{◌≡◌, ◌-◌, ◌^◌, ◌<◌, ◌≤◌, min, true, false, IfSome, MatchOption, MatchResult, Ok, Err};
 ghost use Rattle.std.specs.List.{list_all};
 ghost use Rattle.mount_model.specs.RecordText.{is_plain};
-ghost use Rattle.mount_model.specs.ScriptText.{is_digit, is_number, number_of, actor_of, plain_of, key_of, content_of, path_word};
+ghost use Rattle.mount_model.specs.ScriptText.{is_digit, is_number, number_of, actor_of, handle_word, number_word, plain_of, key_of, content_of, path_word};
 ghost use Rattle.mp_script.specs.Reads.{Gives};
+ghost use Rattle.mp_script.specs.Words.{is_number_up_to};
 
 use crate::fault::Fault;
 use crate::path::is_served;
@@ -28,25 +29,57 @@ fn is_decimal(word: &[u8]) -> bool
     !word.is_empty() && word.len() <= 40 && are_digits(word)
 }
 
-// The number that digits spell, or 1,000 where it is greater.
-fn number_up_to_1000(digits: &[u8]) -> u16
-    ensures { result ≡ min 1000 (number_of digits.now) }
+// The number that digits spell, or the greatest `u64` where it is greater.
+fn capped_number(digits: &[u8]) -> u64
+    ensures { result ≡ min (2 ^ 64 - 1) (number_of digits.now) }
 {
-    let mut number = 0u16;
+    let mut number = 0u64;
     for digit in digits {
-        number = (10 * number + (*digit).saturating_sub(b'0') as u16).min(1000);
+        let value = u64::from((*digit).saturating_sub(b'0'));
+        number = number.saturating_mul(10).saturating_add(value);
     }
     number
+}
+
+// The number that a word spells, where it spells one up to this.
+fn number_up_to(word: &[u8], greatest: u64) -> Option<u64>
+    requires { greatest < 2 ^ 64 - 1 }
+    ensures value { MatchOption result (is_number_up_to greatest word.now ≡ false) (λ number. (is_number_up_to greatest word.now ≡ true) × (number ≡ number_of word.now)) }
+    ensures small { IfSome result (λ number. number ≤ greatest) }
+{
+    let number = capped_number(word);
+    if is_decimal(word) && number <= greatest {
+        return Some(number);
+    }
+    None
 }
 
 pub fn actor(word: &[u8]) -> Result<u16, ScriptCause>
     ensures { result ≡ actor_of word.now }
 {
-    let number = number_up_to_1000(word);
-    if is_decimal(word) && number <= 999 {
-        return Ok(number);
+    match number_up_to(word, 999) {
+        Some(number) => Ok(number as u16),
+        None => Err(ScriptCause::Actor),
     }
-    Err(ScriptCause::Actor)
+}
+
+pub fn handle(word: &[u8]) -> Result<u16, ScriptCause>
+    ensures { result ≡ handle_word word.now }
+{
+    match number_up_to(word, 65_535) {
+        Some(number) => Ok(number as u16),
+        None => Err(ScriptCause::Handle),
+    }
+}
+
+// An offset or a count.
+pub fn number(word: &[u8]) -> Result<u64, ScriptCause>
+    ensures { result ≡ number_word word.now }
+{
+    match number_up_to(word, 9_223_372_036_854_775_807) {
+        Some(number) => Ok(number),
+        None => Err(ScriptCause::Number),
+    }
 }
 
 fn stands_for_itself(byte: u8) -> bool

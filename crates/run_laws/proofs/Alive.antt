@@ -1,24 +1,24 @@
 -- Each legal step leaves an alive state alive.
-use Rattle.std.proofs.Common.{◌≡◌, ℕ, ◌+◌, ◌<◌, ◌≤◌, List, [], ◌∷◌, ◌++◌, map, fold, length, cond, Bool, true, false, ◌==◌, Option, Some, None, refl, sym, ap, ◌∙◌, subst, arith, append-nil, eq-eqb, ne_eqb}
+use Rattle.std.proofs.Common.{◌≡◌, ℕ, ◌+◌, ◌<◌, ◌≤◌, List, [], ◌∷◌, ◌++◌, map, fold, length, cond, Bool, true, false, ◌==◌, Option, Some, None, option_map, refl, sym, ap, ◌∙◌, subst, arith, append-nil, eq-eqb, ne_eqb}
 use Rattle.bucket_model.specs.Along.{Along}
 use Rattle.bucket_model.specs.declared.answer.Brief.{Brief}
 use Rattle.mount_model.specs.declared.request.Request.{Request}
-use Rattle.mount_model.specs.declared.request.Request.TheVariants.{Put, Await, Stat}
+use Rattle.mount_model.specs.declared.request.Request.TheVariants.{Put, Await, Stat, OpenRead, Read, Close, Delete}
 use Rattle.mount_model.specs.declared.request.Line.{Line}
 use Rattle.mount_model.specs.declared.event.Event.{Event}
 use Rattle.mount_model.specs.declared.event.Event.TheVariants.{Begin, Take, Done}
 use Rattle.mount_model.specs.declared.event.Owner.{Owner}
-use Rattle.mount_model.specs.declared.event.Owner.TheVariants as owner
 use Rattle.mount_model.specs.declared.event.Ask.{Ask}
 use Rattle.mount_model.specs.declared.event.Answered.{Answered}
 use Rattle.mount_model.specs.declared.standing.Phase.{Phase}
 use Rattle.mount_model.specs.declared.standing.Phase.TheVariants.{Waiting, Begun, Replied}
 use Rattle.mount_model.specs.declared.standing.Standing.{Standing}
 use Rattle.mount_model.specs.Step.{Step}
-use Rattle.mount_model.specs.State.{ClientState, Job, JobPhase, Ready, Out, Gone, line_at, job_at, change_line, change_job, heard, owner_hears, lines_at, jobs_at, with_replies, job_of, time_after, positions_after, opening, after, state_after}
+use Rattle.mount_model.specs.State.{ClientState, Job, JobPhase, Ready, Out, Gone, line_at, job_at, change_line, change_job, heard, hears, lines_at, jobs_at, with_replies, line_of, next_at, job_of, jobs_asked, handles_after, time_after, positions_after, opening, after, state_after}
 use Rattle.mount_model.specs.Conversation.{next_of}
-use Rattle.mount_model.specs.Run.{AreRising, TakesTurn, Turn, TurnOf, next_at, turn_of_owner, turn_at, due_awaits, MayCome, MayDone, is_among, startable, ready, IsLegalStep, IsRunSoFar}
-use Rattle.run_laws.specs.Alive.{live_job, if_live, if_owner, jobs_at_once, jobs_wanted, AreOrderly, IsAlive}
+use Rattle.mount_model.specs.Handles.{Opened, handle_of}
+use Rattle.mount_model.specs.Run.{AreRising, TakesTurn, Turn, TurnOf, owner_at, turn_of, turn_at, due_awaits, MayCome, MayDone, is_among, startable, ready, IsLegalStep, IsRunSoFar}
+use Rattle.run_laws.specs.Alive.{live_job, if_live, if_line, jobs_at_once, jobs_wanted, AreOrderly, IsAlive}
 use Rattle.run_laws.proofs.Keyed.{total-at}
 use Rattle.run_laws.proofs.Lines.{Rises-lines, lines-change, lines-opening, line_at-same, line_at-other, with_replies-append}
 use Rattle.run_laws.proofs.Orderly.{Frees-same, orderly-begun, orderly-heard, startable-found}
@@ -70,6 +70,10 @@ due-request : (n : ℕ) (lines : List Standing) (number actor : ℕ) (request : 
 due-request n lines number actor (Put key content) answers e h = record { line = record { number = number; actor = actor; request = Put key content }; answers = answers; stands = e; wants = refl }
 due-request n lines number actor Await answers e h = absurd (omega arith)
 due-request n lines number actor (Stat path) answers e h = record { line = record { number = number; actor = actor; request = Stat path }; answers = answers; stands = e; wants = refl }
+due-request n lines number actor (OpenRead name path) answers e h = record { line = record { number = number; actor = actor; request = OpenRead name path }; answers = answers; stands = e; wants = refl }
+due-request n lines number actor (Read name offset count) answers e h = record { line = record { number = number; actor = actor; request = Read name offset count }; answers = answers; stands = e; wants = refl }
+due-request n lines number actor (Close name) answers e h = record { line = record { number = number; actor = actor; request = Close name }; answers = answers; stands = e; wants = refl }
+due-request n lines number actor (Delete key) answers e h = record { line = record { number = number; actor = actor; request = Delete key }; answers = answers; stands = e; wants = refl }
 
 due-phase : (n : ℕ) (lines : List Standing) (line : Line) (phase : Phase) → line_at n lines ≡ Some (record { line = line; phase = phase }) → 1 ≤ jobs_wanted (Some (record { line = line; phase = phase })) → IsDue n lines
 due-phase n lines line Waiting e h = absurd (omega arith)
@@ -80,23 +84,26 @@ due-found : (n : ℕ) (lines : List Standing) (o : Option Standing) → line_at 
 due-found n lines None e h = absurd (omega arith)
 due-found n lines (Some s) e h = due-phase n lines s.line s.phase e h
 
--- a live job's owner
-pub owner-live : (n : ℕ) (phase : JobPhase) → (phase ≡ Gone → ⊥) → if_live phase (if_owner n (owner.Line n)) ≡ 1
+-- a live job's line
+pub owner-live : (n : ℕ) (phase : JobPhase) → (phase ≡ Gone → ⊥) → if_live phase (if_line n n) ≡ 1
 owner-live n Ready live = let same : (n == n) ≡ true = eq-eqb n n refl in rw same refl
 owner-live n (Out from) live = let same : (n == n) ≡ true = eq-eqb n n refl in rw same refl
 owner-live n Gone live = absurd (live refl)
 
-pub owner-due : (state : ClientState) (number n : ℕ) (job : Job) → IsAlive state → job_at number state.jobs ≡ Some job → job.owner ≡ owner.Line n → (job.phase ≡ Gone → ⊥) → IsDue n state.lines
+pub owner-due : (state : ClientState) (number n : ℕ) (job : Job) → IsAlive state → job_at number state.jobs ≡ Some job → job.line ≡ n → (job.phase ≡ Gone → ⊥) → IsDue n state.lines
 owner-due state number n job alive stands owns live =
     let least = total-at job_number (live_job n) number state.jobs job stands in
-    let one : live_job n job ≡ 1 = ap (λ (o : Owner). if_live job.phase (if_owner n o)) owns ∙ owner-live n job.phase live in
+    let one : live_job n job ≡ 1 = ap (λ (m : ℕ). if_live job.phase (if_line n m)) owns ∙ owner-live n job.phase live in
     let all = alive.balanced n in
     due-found n state.lines (line_at n state.lines) refl (omega arith)
 
 -- the turn opens
 
-next_at-begun : (n : ℕ) (line : Line) (answers : List Brief) (lines : List Standing) → line_at n lines ≡ Some (record { line = line; phase = Begun answers }) → next_at n lines ≡ next_of line.request answers
-next_at-begun n line answers lines stands = rw stands refl
+pub next_at-begun : (handles : List Opened) (n : ℕ) (line : Line) (answers : List Brief) (lines : List Standing) → line_at n lines ≡ Some (record { line = line; phase = Begun answers }) → next_at handles n lines ≡ next_of (handle_of line handles) line.request answers
+next_at-begun handles n line answers lines stands = rw stands refl
+
+pub turn-begun : (handles : List Opened) (n : ℕ) (line : Line) (answers : List Brief) (lines : List Standing) → line_at n lines ≡ Some (record { line = line; phase = Begun answers }) → turn_of handles (Some n) lines ≡ TurnOf n (owner_at handles n lines) (next_of (handle_of line handles) line.request answers)
+turn-begun handles n line answers lines stands = ap (TurnOf n (owner_at handles n lines)) (next_at-begun handles n line answers lines stands)
 
 begin-turn : (state : ClientState) (n : ℕ) (line : Line) → IsAlive state → is_among n (startable state.lines) ≡ true → line_at n state.lines ≡ Some (record { line = line; phase = Waiting }) → IsOpen n line [] (change_line n (λ phase. Begun []) state.lines) state.jobs
 begin-turn state n line alive may stands = record {
@@ -108,7 +115,7 @@ begin-turn state n line alive may stands = record {
   balanced = λ m apart. alive.balanced m ∙ sym (ap jobs_wanted (line_at-other n m (λ phase. Begun []) state.lines apart));
 }
 
-done-turn : (state : ClientState) (number n from : ℕ) (job : Job) (answer : Brief) (due : IsDue n state.lines) → IsAlive state → job_at number state.jobs ≡ Some job → job.phase ≡ Out from → job.owner ≡ owner.Line n → IsOpen n due.line (due.answers ++ answer ∷ []) (change_line n (heard answer) state.lines) (change_job number Gone state.jobs)
+done-turn : (state : ClientState) (number n from : ℕ) (job : Job) (answer : Brief) (due : IsDue n state.lines) → IsAlive state → job_at number state.jobs ≡ Some job → job.phase ≡ Out from → job.line ≡ n → IsOpen n due.line (due.answers ++ answer ∷ []) (change_line n (heard answer) state.lines) (change_job number Gone state.jobs)
 done-turn state number n from job answer due alive stands is_out owns = record {
   rising = rw (lines-change n (heard answer) state.lines) alive.rising;
   numbered = numbered-change 1 number Gone state.jobs alive.numbered;
@@ -117,25 +124,28 @@ done-turn state number n from job answer due alive stands is_out owns = record {
   none =
       let gone = live-gone 0 number n from state.jobs job (Rises-jobs 0 state.jobs alive.numbered) stands is_out in
       let same : (n == n) ≡ true = eq-eqb n n refl in
-      let one : if_owner n job.owner ≡ 1 = ap (if_owner n) owns ∙ rw same refl in
+      let one : if_line n job.line ≡ 1 = ap (if_line n) owns ∙ rw same refl in
       let all = alive.balanced n in
       let wanted : jobs_wanted (line_at n state.lines) ≡ 1 = ap jobs_wanted due.stands ∙ due.wants in
       omega arith;
   balanced = λ m apart.
       let gone = live-gone 0 number m from state.jobs job (Rises-jobs 0 state.jobs alive.numbered) stands is_out in
       let other : (n == m) ≡ false = ne_eqb n m (λ e. apart (sym e)) in
-      let not_own : if_owner m job.owner ≡ 0 = ap (if_owner m) owns ∙ rw other refl in
+      let not_own : if_line m job.line ≡ 0 = ap (if_line m) owns ∙ rw other refl in
       let all = alive.balanced m in
       let kept : jobs_wanted (line_at m (change_line n (heard answer) state.lines)) ≡ jobs_wanted (line_at m state.lines) = ap jobs_wanted (line_at-other n m (heard answer) state.lines apart) in
       omega arith;
 }
 
--- what a done event means for its owner
-pub hears-is : (o : Option Job) (job : Job) (n : ℕ) (answer : Brief) (lines : List Standing) → o ≡ Some job → job.owner ≡ owner.Line n → owner_hears o answer lines ≡ change_line n (heard answer) lines
-hears-is o job n answer lines stands owns = ap (λ (t : Option Job). owner_hears t answer lines) stands ∙ ap (λ (t : Owner). owner_hears (Some (record { number = job.number; owner = t; call = job.call; phase = job.phase })) answer lines) owns
+-- what a done event means for its job's line
+pub hears-is : (o : Option Job) (job : Job) (answer : Brief) (lines : List Standing) → o ≡ Some job → hears o answer lines ≡ change_line job.line (heard answer) lines
+hears-is o job answer lines stands = ap (λ (t : Option Job). hears t answer lines) stands
 
-pub turn-is : (o : Option Job) (job : Job) (n : ℕ) (lines : List Standing) → o ≡ Some job → job.owner ≡ owner.Line n → turn_of_owner o lines ≡ TurnOf n (next_at n lines)
-turn-is o job n lines stands owns = ap (λ (t : Option Job). turn_of_owner t lines) stands ∙ ap (λ (t : Owner). turn_of_owner (Some (record { number = job.number; owner = t; call = job.call; phase = job.phase })) lines) owns
+pub line-is : (o : Option Job) (job : Job) → o ≡ Some job → option_map (λ (j : Job). j.line) o ≡ Some job.line
+line-is o job stands = ap (option_map (λ (j : Job). j.line)) stands
+
+pub turn-is : (handles : List Opened) (o : Option Job) (job : Job) (lines : List Standing) → o ≡ Some job → turn_of handles (option_map (λ (j : Job). j.line) o) lines ≡ TurnOf job.line (owner_at handles job.line lines) (next_at handles job.line lines)
+turn-is handles o job lines stands = ap (λ (t : Option ℕ). turn_of handles t lines) (line-is o job stands)
 
 -- whose turn it is after the event, and how it stands
 pub record IsOpened (state : ClientState) (event : Event) : Type 0 where
@@ -150,16 +160,21 @@ pub record IsOpened (state : ClientState) (event : Event) : Type 0 where
   pub begins_other : (m : ℕ) → (m ≡ n → ⊥) → begins m event ≡ 0
   pub unanswered : replied_in old ≡ 0
   pub calls : calls_left line.request answers ≤ may_ask old line.request
-  pub turn : turn_at state event ≡ TurnOf n (next_of line.request answers)
+  pub of_line : line_of state.jobs event ≡ Some n
+  pub owner : Owner
+  pub turn : turn_at state event ≡ TurnOf n owner (next_of (handle_of line state.handles) line.request answers)
   pub now : IsOpen n line answers (lines_at state.lines state.jobs event) (jobs_at state.jobs event)
-  pub spent : total line_work (lines_at state.lines state.jobs event) + total job_work (jobs_at state.jobs event) + asked_work (next_of line.request answers) < work_left state
+  pub spent : total line_work (lines_at state.lines state.jobs event) + total job_work (jobs_at state.jobs event) + asked_work (next_of (handle_of line state.handles) line.request answers) < work_left state
 
-pub done-opens : (state : ClientState) (number position : ℕ) (answer : Brief) (o : Owner) → IsAlive state → (may : MayDone state number position answer) → may.job.owner ≡ o → IsOpened state (Done number position answer)
-done-opens state number position answer (owner.Line n) alive may owns =
+pub done-opens : (state : ClientState) (number position : ℕ) (answer : Brief) → IsAlive state → MayDone state number position answer → IsOpened state (Done number position answer)
+done-opens state number position answer alive may =
+    let n : ℕ = may.job.line in
     let out : may.job.phase ≡ Out may.from = may.is_out in
-    let due = owner-due state number n may.job alive may.stands owns (λ gone. absurd (cc)) in
-    let hears = hears-is (job_at number state.jobs) may.job n answer state.lines may.stands owns in
-    let now = done-turn state number n may.from may.job answer due alive may.stands out owns in
+    let due = owner-due state number n may.job alive may.stands refl (λ gone. absurd (cc)) in
+    let hears_is = hears-is (job_at number state.jobs) may.job answer state.lines may.stands in
+    let now = done-turn state number n may.from may.job answer due alive may.stands out refl in
+    let lines : List Standing = hears (job_at number state.jobs) answer state.lines in
+    let now_here = subst (λ (t : List Standing). IsOpen n due.line (due.answers ++ answer ∷ []) t (change_job number Gone state.jobs)) (sym hears_is) now in
     record {
       n = n;
       line = due.line;
@@ -167,16 +182,18 @@ done-opens state number position answer (owner.Line n) alive may owns =
       old = Begun due.answers;
       found = due.stands;
       goes = heard answer;
-      lines_are = hears;
+      lines_are = hears_is;
       begins_own = refl;
       begins_other = λ m apart. refl;
       unanswered = refl;
       calls = left-falls due.line.request answer due.answers;
-      turn = turn-is (job_at number state.jobs) may.job n (owner_hears (job_at number state.jobs) answer state.lines) may.stands owns ∙ ap (λ (t : List Standing). TurnOf n (next_at n t)) hears ∙ ap (TurnOf n) (next_at-begun n due.line (due.answers ++ answer ∷ []) (change_line n (heard answer) state.lines) now.stands);
-      now = subst (λ (t : List Standing). IsOpen n due.line (due.answers ++ answer ∷ []) t (change_job number Gone state.jobs)) (sym hears) now;
+      of_line = line-is (job_at number state.jobs) may.job may.stands;
+      owner = owner_at state.handles n lines;
+      turn = turn-is state.handles (job_at number state.jobs) may.job lines may.stands ∙ turn-begun state.handles n due.line (due.answers ++ answer ∷ []) lines now_here.stands;
+      now = now_here;
       spent =
-          let same : total line_work (owner_hears (job_at number state.jobs) answer state.lines) ≡ total line_work (change_line n (heard answer) state.lines) = ap (total line_work) hears in
-          let lines_less = heard-work 0 n due.line due.answers answer state.lines (Rises-lines 0 state.lines alive.rising) due.stands in
+          let same : total line_work lines ≡ total line_work (change_line n (heard answer) state.lines) = ap (total line_work) hears_is in
+          let lines_less = heard-work 0 n (handle_of due.line state.handles) due.line due.answers answer state.lines (Rises-lines 0 state.lines alive.rising) due.stands in
           let jobs_less = gone-work 0 number may.from may.job state.jobs (Rises-jobs 0 state.jobs alive.numbered) may.stands out in
           omega arith;
     }
@@ -185,6 +202,7 @@ pub begin-opens : (state : ClientState) (n time : ℕ) → IsAlive state → is_
 begin-opens state n time alive may =
     let found = startable-found 0 n [] state.lines (Rises-lines 0 state.lines alive.rising) may in
     let now = begin-turn state n found.line alive may found.stands in
+    let lines : List Standing = change_line n (λ phase. Begun []) state.lines in
     record {
       n = n;
       line = found.line;
@@ -197,42 +215,50 @@ begin-opens state n time alive may =
       begins_other = λ m apart. let other : (n == m) ≡ false = ne_eqb n m (λ e. apart (sym e)) in rw other refl;
       unanswered = refl;
       calls = omega arith;
-      turn = ap (TurnOf n) (next_at-begun n found.line [] (change_line n (λ phase. Begun []) state.lines) now.stands);
+      of_line = refl;
+      owner = owner_at state.handles n lines;
+      turn = turn-begun state.handles n found.line [] lines now.stands;
       now = now;
-      spent = let less = begin-work 0 n found.line state.lines (Rises-lines 0 state.lines alive.rising) found.stands in omega arith;
+      spent = let less = begin-work 0 n (handle_of found.line state.handles) found.line state.lines (Rises-lines 0 state.lines alive.rising) found.stands in omega arith;
     }
 
 -- each line is served after the step's own asks and replies
 
-turn-closes : (state : ClientState) (event : Event) (asks : List Ask) (own : List Answered) → length (jobs_at state.jobs event) ≡ length state.jobs → IsOpened state event → TakesTurn (length state.jobs + 1) (turn_at state event) asks own → IsClosed (with_replies (lines_at state.lines state.jobs event) own) (jobs_at state.jobs event ++ map (job_of state.lines) asks)
-turn-closes state event asks own same opened takes =
-    close-turn opened.n (length state.jobs) opened.line opened.answers state.lines (lines_at state.lines state.jobs event) (jobs_at state.jobs event) asks own opened.now (sym same) (subst (λ (t : Turn). TakesTurn (length state.jobs + 1) t asks own) opened.turn takes)
+-- the jobs asked for are those of the line whose turn it is
+pub asked-own : (state : ClientState) (event : Event) (opened : IsOpened state event) (asks : List Ask) → jobs_asked state.lines (line_of state.jobs event) asks ≡ map (job_of state.lines opened.n) asks
+asked-own state event opened asks = ap (λ (o : Option ℕ). jobs_asked state.lines o asks) opened.of_line
 
-closed-take : (state : ClientState) (number time from : ℕ) (asks : List Ask) (own : List Answered) → IsAlive state → is_among number (ready state.jobs) ≡ true → asks ≡ [] → own ≡ [] → IsClosed (with_replies state.lines own) (change_job number (Out from) state.jobs ++ map (job_of state.lines) asks)
-closed-take state number time from asks own alive may no_asks no_own =
+turn-closes : (state : ClientState) (event : Event) (asks : List Ask) (own : List Answered) → length (jobs_at state.jobs event) ≡ length state.jobs → IsOpened state event → TakesTurn (length state.jobs + 1) (turn_at state event) asks own → IsClosed (with_replies (lines_at state.lines state.jobs event) own) (jobs_at state.jobs event ++ jobs_asked state.lines (line_of state.jobs event) asks)
+turn-closes state event asks own same opened takes =
+    subst (λ (t : List Job). IsClosed (with_replies (lines_at state.lines state.jobs event) own) (jobs_at state.jobs event ++ t)) (sym (asked-own state event opened asks))
+    (close-turn opened.n (length state.jobs) opened.owner (handle_of opened.line state.handles) opened.line opened.answers state.lines (lines_at state.lines state.jobs event) (jobs_at state.jobs event) asks own opened.now (sym same) (subst (λ (t : Turn). TakesTurn (length state.jobs + 1) t asks own) opened.turn takes))
+
+closed-take : (state : ClientState) (number time from : ℕ) (own : List Answered) → IsAlive state → is_among number (ready state.jobs) ≡ true → own ≡ [] → IsClosed (with_replies state.lines own) (change_job number (Out from) state.jobs ++ [])
+closed-take state number time from own alive may no_own =
     let rises = Rises-jobs 0 state.jobs alive.numbered in
     let found = ready-found 0 number state.jobs rises may in
-    rw (no_asks, no_own, append-nil) (record {
+    rw (no_own, append-nil) (record {
       rising = alive.rising;
       numbered = numbered-change 1 number (Out from) state.jobs alive.numbered;
       orderly = alive.orderly;
       balanced = λ m. live-taken 0 number m from state.jobs found.job rises found.stands found.phase ∙ alive.balanced m;
     })
 
-pub closed-event : (state : ClientState) (event : Event) (asks : List Ask) (own : List Answered) → IsAlive state → MayCome state event → TakesTurn (length state.jobs + 1) (turn_at state event) asks own → IsClosed (with_replies (lines_at state.lines state.jobs event) own) (jobs_at state.jobs event ++ map (job_of state.lines) asks)
+pub closed-event : (state : ClientState) (event : Event) (asks : List Ask) (own : List Answered) → IsAlive state → MayCome state event → TakesTurn (length state.jobs + 1) (turn_at state event) asks own → IsClosed (with_replies (lines_at state.lines state.jobs event) own) (jobs_at state.jobs event ++ jobs_asked state.lines (line_of state.jobs event) asks)
 closed-event state (Begin n time) asks own alive may takes = turn-closes state (Begin n time) asks own refl (begin-opens state n time alive may.1) takes
-closed-event state (Take number time from) asks own alive may takes = closed-take state number time from asks own alive may.1 takes.0 takes.1
-closed-event state (Done number position answer) asks own alive may takes = turn-closes state (Done number position answer) asks own (length-change_job number Gone state.jobs) (done-opens state number position answer may.job.owner alive may refl) takes
+closed-event state (Take number time from) asks own alive may takes = closed-take state number time from own alive may.1 takes.1
+closed-event state (Done number position answer) asks own alive may takes = turn-closes state (Done number position answer) asks own (length-change_job number Gone state.jobs) (done-opens state number position answer alive may) takes
 
 -- a legal step leaves an alive state alive
 pub alive-step : (state : ClientState) (step : Step) → IsAlive state → IsLegalStep state step → IsAlive (after state step)
 alive-step state step alive legal =
     let lines : List Standing = with_replies (lines_at state.lines state.jobs step.event) legal.own in
-    let jobs : List Job = jobs_at state.jobs step.event ++ map (job_of state.lines) step.asks in
+    let jobs : List Job = jobs_at state.jobs step.event ++ jobs_asked state.lines (line_of state.jobs step.event) step.asks in
+    let handles : List Opened = handles_after state.handles (lines_at state.lines state.jobs step.event) step.replies in
     let closed = closed-event state step.event step.asks legal.own alive legal.may_come legal.turn in
     let same : with_replies (lines_at state.lines state.jobs step.event) step.replies ≡ with_replies lines (due_awaits lines) = ap (with_replies (lines_at state.lines state.jobs step.event)) legal.replies ∙ with_replies-append (lines_at state.lines state.jobs step.event) legal.own (due_awaits lines) in
-    subst (λ (t : List Standing). IsAlive (record { time = time_after state.time step.event; lines = t; jobs = jobs; positions = positions_after state.positions step.event })) (sym same)
-    (settle (time_after state.time step.event) lines jobs (positions_after state.positions step.event) closed)
+    subst (λ (t : List Standing). IsAlive (record { time = time_after state.time step.event; lines = t; jobs = jobs; positions = positions_after state.positions step.event; handles = handles })) (sym same)
+    (settle (time_after state.time step.event) lines jobs (positions_after state.positions step.event) handles closed)
 
 pub alive-steps : (state : ClientState) (steps : List Step) → IsAlive state → Along IsLegalStep after state steps → IsAlive (fold after state steps)
 alive-steps state [] alive run = alive
@@ -243,23 +269,24 @@ alive script steps rising run = alive-steps (opening script) steps (opening-aliv
 
 -- each legal step leaves less to do
 
-event-take-work : (state : ClientState) (number time from : ℕ) (asks : List Ask) (own : List Answered) → IsAlive state → is_among number (ready state.jobs) ≡ true → asks ≡ [] → own ≡ [] → total line_work (with_replies state.lines own) + total job_work (change_job number (Out from) state.jobs ++ map (job_of state.lines) asks) < work_left state
-event-take-work state number time from asks own alive may no_asks no_own =
+event-take-work : (state : ClientState) (number time from : ℕ) (own : List Answered) → IsAlive state → is_among number (ready state.jobs) ≡ true → own ≡ [] → total line_work (with_replies state.lines own) + total job_work (change_job number (Out from) state.jobs ++ []) < work_left state
+event-take-work state number time from own alive may no_own =
     let rises = Rises-jobs 0 state.jobs alive.numbered in
     let found = ready-found 0 number state.jobs rises may in
     let less = taken-work 0 number from found.job state.jobs rises found.stands found.phase in
-    rw (no_asks, no_own, append-nil) (omega arith)
+    rw (no_own, append-nil) (omega arith)
 
-turn-spends : (state : ClientState) (event : Event) (asks : List Ask) (own : List Answered) → IsOpened state event → TakesTurn (length state.jobs + 1) (turn_at state event) asks own → total line_work (with_replies (lines_at state.lines state.jobs event) own) + total job_work (jobs_at state.jobs event ++ map (job_of state.lines) asks) < work_left state
+turn-spends : (state : ClientState) (event : Event) (asks : List Ask) (own : List Answered) → IsOpened state event → TakesTurn (length state.jobs + 1) (turn_at state event) asks own → total line_work (with_replies (lines_at state.lines state.jobs event) own) + total job_work (jobs_at state.jobs event ++ jobs_asked state.lines (line_of state.jobs event) asks) < work_left state
 turn-spends state event asks own opened takes =
-    let left = turn-work opened.n (length state.jobs + 1) opened.line opened.answers state.lines (lines_at state.lines state.jobs event) (jobs_at state.jobs event) asks own opened.now (subst (λ (t : Turn). TakesTurn (length state.jobs + 1) t asks own) opened.turn takes) in
+    let asked : total job_work (jobs_at state.jobs event ++ jobs_asked state.lines (line_of state.jobs event) asks) ≡ total job_work (jobs_at state.jobs event ++ map (job_of state.lines opened.n) asks) = ap (λ (t : List Job). total job_work (jobs_at state.jobs event ++ t)) (asked-own state event opened asks) in
+    let left = turn-work opened.n (length state.jobs + 1) opened.owner (handle_of opened.line state.handles) opened.line opened.answers state.lines (lines_at state.lines state.jobs event) (jobs_at state.jobs event) asks own opened.now (subst (λ (t : Turn). TakesTurn (length state.jobs + 1) t asks own) opened.turn takes) in
     let spent = opened.spent in
     omega arith
 
-event-work : (state : ClientState) (event : Event) (asks : List Ask) (own : List Answered) → IsAlive state → MayCome state event → TakesTurn (length state.jobs + 1) (turn_at state event) asks own → total line_work (with_replies (lines_at state.lines state.jobs event) own) + total job_work (jobs_at state.jobs event ++ map (job_of state.lines) asks) < work_left state
+event-work : (state : ClientState) (event : Event) (asks : List Ask) (own : List Answered) → IsAlive state → MayCome state event → TakesTurn (length state.jobs + 1) (turn_at state event) asks own → total line_work (with_replies (lines_at state.lines state.jobs event) own) + total job_work (jobs_at state.jobs event ++ jobs_asked state.lines (line_of state.jobs event) asks) < work_left state
 event-work state (Begin n time) asks own alive may takes = turn-spends state (Begin n time) asks own (begin-opens state n time alive may.1) takes
-event-work state (Take number time from) asks own alive may takes = event-take-work state number time from asks own alive may.1 takes.0 takes.1
-event-work state (Done number position answer) asks own alive may takes = turn-spends state (Done number position answer) asks own (done-opens state number position answer may.job.owner alive may refl) takes
+event-work state (Take number time from) asks own alive may takes = event-take-work state number time from own alive may.1 takes.1
+event-work state (Done number position answer) asks own alive may takes = turn-spends state (Done number position answer) asks own (done-opens state number position answer alive may) takes
 
 pub work_falls : (state : ClientState) (step : Step) → IsAlive state → IsLegalStep state step → work_left (after state step) < work_left state
 work_falls state step alive legal =

@@ -1,40 +1,55 @@
 -- A line asks for no more jobs than its request has calls.
-use Rattle.std.proofs.Common.{◌≡◌, ℕ, ◌+◌, ◌-◌, ◌≤◌, List, [], ◌∷◌, fold, length, cond, Bool, true, false, ◌==◌, Some, inl, inr, refl, sym, ap, ◌∙◌, subst, subst₂, arith, eq-eqb, ne_eqb}
+use Rattle.std.proofs.Common.{◌≡◌, ℕ, ◌+◌, ◌-◌, ◌≤◌, List, [], ◌∷◌, ◌++◌, map, fold, length, cond, Bool, true, false, ◌==◌, if◌then◌else◌, Some, inl, inr, append-nil, refl, sym, ap, ◌∙◌, subst, subst₂, arith, eq-eqb, ne_eqb}
 use Rattle.std.specs.List.{AllByRecursion}
 use Rattle.bucket_model.specs.Along.{Along}
 use Rattle.mount_model.specs.declared.request.Request.{Request}
-use Rattle.mount_model.specs.declared.request.Request.TheVariants.{Put, Await, Stat}
+use Rattle.mount_model.specs.declared.request.Request.TheVariants.{Put, Await, Stat, OpenRead, Read, Close, Delete}
 use Rattle.mount_model.specs.declared.request.Line.{Line}
 use Rattle.mount_model.specs.declared.event.Event.{Event}
 use Rattle.mount_model.specs.declared.event.Event.TheVariants.{Begin, Take, Done}
-use Rattle.mount_model.specs.declared.event.Owner.TheVariants as owner
 use Rattle.mount_model.specs.declared.event.Ask.{Ask}
 use Rattle.mount_model.specs.declared.event.Answered.{Answered}
 use Rattle.mount_model.specs.declared.standing.Phase.{Phase}
 use Rattle.mount_model.specs.declared.standing.Phase.TheVariants.{Waiting, Begun, Replied}
 use Rattle.mount_model.specs.declared.standing.Standing.{Standing}
 use Rattle.mount_model.specs.Step.{Step}
-use Rattle.mount_model.specs.State.{ClientState, line_at, change_line, lines_at, with_replies, opening, after}
-use Rattle.mount_model.specs.Conversation.{Next, Asks, Replies, Waits, next_of}
+use Rattle.mount_model.specs.State.{ClientState, Job, JobPhase, Out, Gone, line_at, change_line, change_job, lines_at, jobs_at, line_of, job_of, jobs_asked, with_replies, opening, after, state_after}
+use Rattle.mount_model.specs.Conversation.{Next, Asks, Replies, Opens, Gives, Waits, next_of}
+use Rattle.mount_model.specs.Handles.{handle_of}
 use Rattle.mount_model.specs.Run.{AreRising, MayCome, TakesTurn, Turn, TurnOf, turn_at, asked_of, due_awaits, IsLegalStep, IsRunSoFar}
-use Rattle.run_laws.specs.Alive.{total, IsAlive}
-use Rattle.run_laws.specs.Calls.{asks_for, asks_in, may_ask, line_may_ask}
+use Rattle.run_laws.specs.Alive.{IsAlive}
+use Rattle.run_laws.specs.Calls.{job_for, jobs_of, may_ask, line_may_ask}
 use Rattle.run_laws.specs.Work.{calls_left}
-use Rattle.run_laws.proofs.Keyed.{item_at-key}
+use Rattle.run_laws.proofs.Keyed.{item_at-key, total-append}
+use Rattle.run_laws.proofs.Jobs.{in_phase}
 use Rattle.run_laws.proofs.Lines.{number_of, Rises-lines, line_at-same, line_at-other, with_replies-append, lines-opening}
 use Rattle.run_laws.proofs.Settled.{standing, settled, settled-is}
 use Rattle.run_laws.proofs.Conversation.{asks-left}
 use Rattle.run_laws.proofs.Turn.{by_number}
 use Rattle.run_laws.proofs.Quiet.{each-line}
 use Rattle.run_laws.proofs.Once.{found-one, each-map}
-use Rattle.run_laws.proofs.Alive.{IsOpened, begin-opens, done-opens, closed-event, alive-step, opening-alive}
+use Rattle.run_laws.proofs.Alive.{IsOpened, asked-own, begin-opens, done-opens, closed-event, alive-step, opening-alive}
 
--- what a line asked for it may no more ask for
-record Spends (m asked : ℕ) (before behind : List Standing) : Type 0 where
-  spent : asked + line_may_ask (line_at m behind) ≤ line_may_ask (line_at m before)
+-- what a line has asked for it may no more ask for
+record Spends (m : ℕ) (before behind : List Standing) (jobs asked : List Job) : Type 0 where
+  spent : jobs_of m asked + line_may_ask (line_at m behind) ≤ jobs_of m jobs + line_may_ask (line_at m before)
 
-no-spending : (m : ℕ) (lines : List Standing) → Spends m 0 lines lines
-no-spending m lines = record { spent = omega arith }
+no-spending : (m : ℕ) (lines : List Standing) (jobs : List Job) → Spends m lines lines jobs jobs
+no-spending m lines jobs = record { spent = omega arith }
+
+-- jobs stay where they come further
+jobs_of-change : (m n : ℕ) (phase : JobPhase) (jobs : List Job) → jobs_of m (change_job n phase jobs) ≡ jobs_of m jobs
+jobs_of-change m n phase [] = refl
+jobs_of-change m n phase (job ∷ jobs) = go (job.number == n) (jobs_of-change m n phase jobs)
+  where
+    go : (b : Bool) → jobs_of m (change_job n phase jobs) ≡ jobs_of m jobs → jobs_of m ((if b then in_phase phase job else job) ∷ change_job n phase jobs) ≡ jobs_of m (job ∷ jobs)
+    go true e = omega arith
+    go false e = omega arith
+
+jobs_of-event : (m : ℕ) (jobs : List Job) (event : Event) → jobs_of m (jobs_at jobs event) ≡ jobs_of m jobs
+jobs_of-event m jobs (Begin line time) = refl
+jobs_of-event m jobs (Take number time from) = jobs_of-change m number (Out from) jobs
+jobs_of-event m jobs (Done number position answer) = jobs_of-change m number Gone jobs
 
 -- the awaits that are due
 
@@ -47,6 +62,10 @@ settled-may-cons m number actor Await (Begun answers) lines e = go (number == m)
     go true = refl
     go false = e
 settled-may-cons m number actor (Stat path) (Begun answers) lines e = refl
+settled-may-cons m number actor (OpenRead name path) (Begun answers) lines e = refl
+settled-may-cons m number actor (Read name offset count) (Begun answers) lines e = refl
+settled-may-cons m number actor (Close name) (Begun answers) lines e = refl
+settled-may-cons m number actor (Delete key) (Begun answers) lines e = refl
 settled-may-cons m number actor request Replied lines e = go (number == m)
   where
     go : (b : Bool) → line_may_ask (cond b (Some (standing number actor request Replied)) (line_at m (settled lines))) ≡ line_may_ask (cond b (Some (standing number actor request Replied)) (line_at m lines))
@@ -59,8 +78,11 @@ settled-may m (s ∷ lines) = settled-may-cons m s.line.number s.line.actor s.li
 
 -- a turn, from the event on
 
-own-spends : (state : ClientState) (event : Event) (asks : List Ask) (own : List Answered) → (opened : IsOpened state event) → TakesTurn (length state.jobs + 1) (TurnOf opened.n (next_of opened.line.request opened.answers)) asks own → Spends opened.n (total (asks_for opened.n) asks) state.lines (with_replies (lines_at state.lines state.jobs event) own)
-own-spends state event asks own opened turn = go (next_of opened.line.request opened.answers) refl turn
+abbrev Turns : ClientState → Event → ℕ → ℕ → List Ask → List Answered → Type 0
+Turns state event n m asks own = Spends m state.lines (with_replies (lines_at state.lines state.jobs event) own) state.jobs (jobs_at state.jobs event ++ map (job_of state.lines n) asks)
+
+own-spends : (state : ClientState) (event : Event) (asks : List Ask) (own : List Answered) → (opened : IsOpened state event) → TakesTurn (length state.jobs + 1) (TurnOf opened.n opened.owner (next_of (handle_of opened.line state.handles) opened.line.request opened.answers)) asks own → Turns state event opened.n opened.n asks own
+own-spends state event asks own opened turn = go (next_of (handle_of opened.line state.handles) opened.line.request opened.answers) refl turn
   where
     n : ℕ
     n = opened.n
@@ -83,20 +105,31 @@ own-spends state event asks own opened turn = go (next_of opened.line.request op
     same : (n == n) ≡ true
     same = eq-eqb n n refl
 
-    spends_by : (asked : List Ask) (replied : List Answered) → asks ≡ asked → own ≡ replied → Spends n (total (asks_for n) asked) state.lines (with_replies lines replied) → Spends n (total (asks_for n) asks) state.lines (with_replies lines own)
-    spends_by asked replied e f spends = subst₂ (λ (x : List Ask) (y : List Answered). Spends n (total (asks_for n) x) state.lines (with_replies lines y)) (sym e) (sym f) spends
+    kept : jobs_of n (jobs_at state.jobs event) ≡ jobs_of n state.jobs
+    kept = jobs_of-event n state.jobs event
 
-    go : (next : Next) → next_of opened.line.request opened.answers ≡ next → TakesTurn (length state.jobs + 1) (TurnOf n next) asks own → Spends n (total (asks_for n) asks) state.lines (with_replies lines own)
+    none : jobs_of n (jobs_at state.jobs event ++ []) ≡ jobs_of n state.jobs
+    none = ap (jobs_of n) (append-nil (jobs_at state.jobs event)) ∙ kept
+
+    spends_by : (asked : List Ask) (replied : List Answered) → asks ≡ asked → own ≡ replied → Turns state event n n asked replied → Turns state event n n asks own
+    spends_by asked replied e f spends = subst₂ (λ (x : List Ask) (y : List Answered). Turns state event n n x y) (sym e) (sym f) spends
+
+    go : (next : Next) → next_of (handle_of opened.line state.handles) opened.line.request opened.answers ≡ next → TakesTurn (length state.jobs + 1) (TurnOf n opened.owner next) asks own → Turns state event n n asks own
     go (Asks called) is (inl t) =
-        let some = asks-left opened.line.request opened.answers called is in
-        let one : asks_for n (record { job = length state.jobs + 1; owner = owner.Line n; call = asked_of called }) ≡ 1 = rw same refl in
-        spends_by _ _ t.0 t.1 (record { spent = omega (arith, old, now, calls) })
-    go (Asks called) is (inr t) = spends_by _ _ t.0 t.1 (record { spent = omega (arith, done) })
-    go (Replies said) is t = spends_by _ _ t.0 t.1 (record { spent = omega (arith, done) })
-    go Waits is t = spends_by _ _ t.0 t.1 (record { spent = omega (arith, old, now, calls) })
+        let some = asks-left (handle_of opened.line state.handles) opened.line.request opened.answers called is in
+        let ask : Ask = record { job = length state.jobs + 1; owner = opened.owner; call = asked_of called } in
+        let one : job_for n (job_of state.lines n ask) ≡ 1 = rw same refl in
+        let sum = total-append (job_for n) (jobs_at state.jobs event) (job_of state.lines n ask ∷ []) in
+        spends_by _ _ t.0 t.1 (record { spent = omega (arith, old, now, calls, kept) })
+    go (Asks called) is (inr t) = spends_by _ _ t.0 t.1 (record { spent = omega (arith, done, none) })
+    go (Replies said) is t = spends_by _ _ t.0 t.1 (record { spent = omega (arith, done, none) })
+    go (Opens version) is (inl t) = spends_by _ _ t.0 t.1 (record { spent = omega (arith, done, none) })
+    go (Opens version) is (inr t) = spends_by _ _ t.0 t.1 (record { spent = omega (arith, done, none) })
+    go (Gives count) is t = spends_by _ _ t.2.0 t.2.1 (record { spent = omega (arith, done, none) })
+    go Waits is t = spends_by _ _ t.0 t.1 (record { spent = omega (arith, old, now, calls, none) })
 
-other-spends : (state : ClientState) (event : Event) (asks : List Ask) (own : List Answered) → (opened : IsOpened state event) → TakesTurn (length state.jobs + 1) (TurnOf opened.n (next_of opened.line.request opened.answers)) asks own → (m : ℕ) → (m ≡ opened.n → ⊥) → Spends m (total (asks_for m) asks) state.lines (with_replies (lines_at state.lines state.jobs event) own)
-other-spends state event asks own opened turn m apart = go (next_of opened.line.request opened.answers) turn
+other-spends : (state : ClientState) (event : Event) (asks : List Ask) (own : List Answered) → (opened : IsOpened state event) → TakesTurn (length state.jobs + 1) (TurnOf opened.n opened.owner (next_of (handle_of opened.line state.handles) opened.line.request opened.answers)) asks own → (m : ℕ) → (m ≡ opened.n → ⊥) → Turns state event opened.n m asks own
+other-spends state event asks own opened turn m apart = go (next_of (handle_of opened.line state.handles) opened.line.request opened.answers) turn
   where
     n : ℕ
     n = opened.n
@@ -113,30 +146,48 @@ other-spends state event asks own opened turn m apart = go (next_of opened.line.
     other : (n == m) ≡ false
     other = ne_eqb n m (λ e. apart (sym e))
 
-    spends_by : (asked : List Ask) (replied : List Answered) → asks ≡ asked → own ≡ replied → Spends m (total (asks_for m) asked) state.lines (with_replies lines replied) → Spends m (total (asks_for m) asks) state.lines (with_replies lines own)
-    spends_by asked replied e f spends = subst₂ (λ (x : List Ask) (y : List Answered). Spends m (total (asks_for m) x) state.lines (with_replies lines y)) (sym e) (sym f) spends
+    kept : jobs_of m (jobs_at state.jobs event) ≡ jobs_of m state.jobs
+    kept = jobs_of-event m state.jobs event
 
-    go : (next : Next) → TakesTurn (length state.jobs + 1) (TurnOf n next) asks own → Spends m (total (asks_for m) asks) state.lines (with_replies lines own)
+    none : jobs_of m (jobs_at state.jobs event ++ []) ≡ jobs_of m state.jobs
+    none = ap (jobs_of m) (append-nil (jobs_at state.jobs event)) ∙ kept
+
+    spends_by : (asked : List Ask) (replied : List Answered) → asks ≡ asked → own ≡ replied → Turns state event n m asked replied → Turns state event n m asks own
+    spends_by asked replied e f spends = subst₂ (λ (x : List Ask) (y : List Answered). Turns state event n m x y) (sym e) (sym f) spends
+
+    go : (next : Next) → TakesTurn (length state.jobs + 1) (TurnOf n opened.owner next) asks own → Turns state event n m asks own
     go (Asks called) (inl t) =
-        let none : asks_for m (record { job = length state.jobs + 1; owner = owner.Line n; call = asked_of called }) ≡ 0 = rw other refl in
-        spends_by _ _ t.0 t.1 (record { spent = omega (arith, now) })
-    go (Asks called) (inr t) = spends_by _ _ t.0 t.1 (record { spent = omega (arith, done) })
-    go (Replies said) t = spends_by _ _ t.0 t.1 (record { spent = omega (arith, done) })
-    go Waits t = spends_by _ _ t.0 t.1 (record { spent = omega (arith, now) })
+        let ask : Ask = record { job = length state.jobs + 1; owner = opened.owner; call = asked_of called } in
+        let zero_of : job_for m (job_of state.lines n ask) ≡ 0 = rw other refl in
+        let sum = total-append (job_for m) (jobs_at state.jobs event) (job_of state.lines n ask ∷ []) in
+        spends_by _ _ t.0 t.1 (record { spent = omega (arith, now, kept) })
+    go (Asks called) (inr t) = spends_by _ _ t.0 t.1 (record { spent = omega (arith, done, none) })
+    go (Replies said) t = spends_by _ _ t.0 t.1 (record { spent = omega (arith, done, none) })
+    go (Opens version) (inl t) = spends_by _ _ t.0 t.1 (record { spent = omega (arith, done, none) })
+    go (Opens version) (inr t) = spends_by _ _ t.0 t.1 (record { spent = omega (arith, done, none) })
+    go (Gives count) t = spends_by _ _ t.2.0 t.2.1 (record { spent = omega (arith, done, none) })
+    go Waits t = spends_by _ _ t.0 t.1 (record { spent = omega (arith, now, none) })
 
-turn-spends : (state : ClientState) (event : Event) (asks : List Ask) (own : List Answered) (m : ℕ) → IsOpened state event → TakesTurn (length state.jobs + 1) (turn_at state event) asks own → Spends m (total (asks_for m) asks) state.lines (with_replies (lines_at state.lines state.jobs event) own)
+abbrev EventSpends : ClientState → Event → ℕ → List Ask → List Answered → Type 0
+EventSpends state event m asks own = Spends m state.lines (with_replies (lines_at state.lines state.jobs event) own) state.jobs (jobs_at state.jobs event ++ jobs_asked state.lines (line_of state.jobs event) asks)
+
+turn-spends : (state : ClientState) (event : Event) (asks : List Ask) (own : List Answered) (m : ℕ) → IsOpened state event → TakesTurn (length state.jobs + 1) (turn_at state event) asks own → EventSpends state event m asks own
 turn-spends state event asks own m opened takes =
     let turn = subst (λ (t : Turn). TakesTurn (length state.jobs + 1) t asks own) opened.turn takes in
-    by_number opened.n (λ m. Spends m (total (asks_for m) asks) state.lines (with_replies (lines_at state.lines state.jobs event) own)) (own-spends state event asks own opened turn) (other-spends state event asks own opened turn) m
+    subst (λ (t : List Job). Spends m state.lines (with_replies (lines_at state.lines state.jobs event) own) state.jobs (jobs_at state.jobs event ++ t)) (sym (asked-own state event opened asks))
+    (by_number opened.n (λ m. Turns state event opened.n m asks own) (own-spends state event asks own opened turn) (other-spends state event asks own opened turn) m)
 
-event-spends : (state : ClientState) (event : Event) (asks : List Ask) (own : List Answered) (m : ℕ) → IsAlive state → MayCome state event → TakesTurn (length state.jobs + 1) (turn_at state event) asks own → Spends m (total (asks_for m) asks) state.lines (with_replies (lines_at state.lines state.jobs event) own)
+take-spends : (state : ClientState) (number from m : ℕ) → Spends m state.lines state.lines state.jobs (change_job number (Out from) state.jobs ++ [])
+take-spends state number from m = let kept = jobs_of-change m number (Out from) state.jobs in rw append-nil (record { spent = omega arith })
+
+event-spends : (state : ClientState) (event : Event) (asks : List Ask) (own : List Answered) (m : ℕ) → IsAlive state → MayCome state event → TakesTurn (length state.jobs + 1) (turn_at state event) asks own → EventSpends state event m asks own
 event-spends state (Begin n time) asks own m alive may takes = turn-spends state (Begin n time) asks own m (begin-opens state n time alive may.1) takes
-event-spends state (Take number time from) asks own m alive may takes = subst₂ (λ (x : List Ask) (y : List Answered). Spends m (total (asks_for m) x) state.lines (with_replies state.lines y)) (sym takes.0) (sym takes.1) (no-spending m state.lines)
-event-spends state (Done number position answer) asks own m alive may takes = turn-spends state (Done number position answer) asks own m (done-opens state number position answer may.job.owner alive may refl) takes
+event-spends state (Take number time from) asks own m alive may takes = subst (λ (y : List Answered). EventSpends state (Take number time from) m asks y) (sym takes.1) (take-spends state number from m)
+event-spends state (Done number position answer) asks own m alive may takes = turn-spends state (Done number position answer) asks own m (done-opens state number position answer alive may) takes
 
 -- a step, and a run
 
-step-spends : (state : ClientState) (step : Step) (m : ℕ) → IsAlive state → IsLegalStep state step → Spends m (total (asks_for m) step.asks) state.lines (after state step).lines
+step-spends : (state : ClientState) (step : Step) (m : ℕ) → IsAlive state → IsLegalStep state step → Spends m state.lines (after state step).lines state.jobs (after state step).jobs
 step-spends state step m alive legal =
     let event_lines : List Standing = lines_at state.lines state.jobs step.event in
     let lines : List Standing = with_replies event_lines legal.own in
@@ -146,8 +197,8 @@ step-spends state step m alive legal =
     let may : line_may_ask (line_at m (with_replies event_lines step.replies)) ≡ line_may_ask (line_at m lines) = ap (λ (t : List Standing). line_may_ask (line_at m t)) same ∙ settled-may m lines in
     record { spent = omega arith }
 
-steps-spend : (state : ClientState) (steps : List Step) (m : ℕ) → IsAlive state → Along IsLegalStep after state steps → Spends m (asks_in m steps) state.lines (fold after state steps).lines
-steps-spend state [] m alive run = no-spending m state.lines
+steps-spend : (state : ClientState) (steps : List Step) (m : ℕ) → IsAlive state → Along IsLegalStep after state steps → Spends m state.lines (fold after state steps).lines state.jobs (fold after state steps).jobs
+steps-spend state [] m alive run = no-spending m state.lines state.jobs
 steps-spend state (step ∷ steps) m alive run =
     let first = (step-spends state step m alive run.0).spent in
     let more = (steps-spend (after state step) steps m (alive-step state step alive run.0) run.1).spent in
@@ -157,16 +208,17 @@ opening-waits : (script : List Line) → AllByRecursion (λ s. s.phase ≡ Waiti
 opening-waits [] = tt
 opening-waits (line ∷ script) = (refl, opening-waits script)
 
-pub calls_bound : (script : List Line) (steps : List Step) → AreRising 0 script → IsRunSoFar script steps → AllByRecursion (λ line. asks_in line.number steps ≤ calls_left line.request []) script
+pub calls_bound : (script : List Line) (steps : List Step) → AreRising 0 script → IsRunSoFar script steps → AllByRecursion (λ line. jobs_of line.number (state_after script steps).jobs ≤ calls_left line.request []) script
 calls_bound script steps rising run =
     let lines : List Standing = (opening script).lines in
+    let jobs : List Job = (state_after script steps).jobs in
     let is_alive = opening-alive script rising in
-    let one : (n : ℕ) (s : Standing) → line_at n lines ≡ Some s → asks_in s.line.number steps ≤ calls_left s.line.request [] = λ n s e.
+    let one : (n : ℕ) (s : Standing) → line_at n lines ≡ Some s → jobs_of s.line.number jobs ≤ calls_left s.line.request [] = λ n s e.
     let number : s.line.number ≡ n = item_at-key number_of n lines s e in
     let waits : s.phase ≡ Waiting = found-one (λ s. s.phase ≡ Waiting) n lines s (opening-waits script) e in
     let spent = (steps-spend (opening script) steps n is_alive run).spent in
     let all : line_may_ask (line_at n lines) ≡ calls_left s.line.request [] = ap line_may_ask e ∙ ap (λ (p : Phase). may_ask p s.line.request) waits in
-    let count : asks_in s.line.number steps ≡ asks_in n steps = ap (λ (k : ℕ). asks_in k steps) number in
+    let count : jobs_of s.line.number jobs ≡ jobs_of n jobs = ap (λ (k : ℕ). jobs_of k jobs) number in
     omega arith in
-    subst (λ (t : List Line). AllByRecursion (λ line. asks_in line.number steps ≤ calls_left line.request []) t) (lines-opening script)
-    (each-map (λ line. asks_in line.number steps ≤ calls_left line.request []) lines (each-line (λ s. asks_in s.line.number steps ≤ calls_left s.line.request []) 0 lines (Rises-lines 0 lines is_alive.rising) one))
+    subst (λ (t : List Line). AllByRecursion (λ line. jobs_of line.number jobs ≤ calls_left line.request []) t) (lines-opening script)
+    (each-map (λ line. jobs_of line.number jobs ≤ calls_left line.request []) lines (each-line (λ s. jobs_of s.line.number jobs ≤ calls_left s.line.request []) 0 lines (Rises-lines 0 lines is_alive.rising) one))

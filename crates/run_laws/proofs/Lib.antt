@@ -7,8 +7,12 @@ pub mod Conversation
 pub mod Work
 pub mod Turn
 pub mod Alive
+pub mod Handles
+pub mod Spared
 pub mod Served
+pub mod Faithful
 pub mod Quiet
+pub mod Slices
 pub mod Order
 pub mod Once
 pub mod Calls

@@ -4,69 +4,64 @@ use Rattle.bucket_model.specs.declared.answer.Brief.{Brief}
 use Rattle.mount_model.specs.declared.request.Line.{Line}
 use Rattle.mount_model.specs.declared.event.Event.{Event}
 use Rattle.mount_model.specs.declared.event.Event.TheVariants.{Begin, Take, Done}
-use Rattle.mount_model.specs.declared.event.Owner.{Owner}
-use Rattle.mount_model.specs.declared.event.Owner.TheVariants as owner
 use Rattle.mount_model.specs.declared.event.Answered.{Answered}
 use Rattle.mount_model.specs.declared.standing.Phase.{Phase}
 use Rattle.mount_model.specs.declared.standing.Phase.TheVariants.{Begun, Replied}
 use Rattle.mount_model.specs.declared.standing.Standing.{Standing}
 use Rattle.mount_model.specs.Step.{Step}
-use Rattle.mount_model.specs.State.{ClientState, Job, line_at, job_at, change_line, owner_hears, heard, lines_at, with_answered, with_replies, after, opening, state_after}
+use Rattle.mount_model.specs.State.{ClientState, Job, line_at, job_at, change_line, hears, heard, lines_at, with_answered, with_replies, after, opening, state_after}
 use Rattle.mount_model.specs.Run.{AreRising}
 use Rattle.run_laws.proofs.Keyed.{Rises, change_at-same, change_at-other}
 
 abbrev pub number_of : Standing → ℕ
 number_of s = s.line.number
 
-abbrev pub line_of : Standing → Line
-line_of s = s.line
+abbrev pub line_in : Standing → Line
+line_in s = s.line
 
 abbrev pub changed : (Phase → Phase) → Standing → Standing
 changed f s = record { line = s.line; phase = f s.phase }
 
-pub Rises-lines : (above : ℕ) (lines : List Standing) → AreRising above (map line_of lines) → Rises number_of above lines
+pub Rises-lines : (above : ℕ) (lines : List Standing) → AreRising above (map line_in lines) → Rises number_of above lines
 Rises-lines above [] r = tt
 Rises-lines above (s ∷ lines) r = (r.0, Rises-lines s.line.number lines r.1)
 
 -- changes leave the lines themselves
 
-pub lines-change : (n : ℕ) (f : Phase → Phase) (lines : List Standing) → map line_of (change_line n f lines) ≡ map line_of lines
+pub lines-change : (n : ℕ) (f : Phase → Phase) (lines : List Standing) → map line_in (change_line n f lines) ≡ map line_in lines
 lines-change n f [] = refl
 lines-change n f (s ∷ lines) = go (s.line.number == n) (lines-change n f lines)
   where
-    go : (b : Bool) → map line_of (change_line n f lines) ≡ map line_of lines → map line_of ((if b then changed f s else s) ∷ change_line n f lines) ≡ map line_of (s ∷ lines)
+    go : (b : Bool) → map line_in (change_line n f lines) ≡ map line_in lines → map line_in ((if b then changed f s else s) ∷ change_line n f lines) ≡ map line_in (s ∷ lines)
     go true more = ap (λ t. s.line ∷ t) more
     go false more = ap (λ t. s.line ∷ t) more
 
-pub lines-replies : (lines : List Standing) (replies : List Answered) → map line_of (with_replies lines replies) ≡ map line_of lines
+pub lines-replies : (lines : List Standing) (replies : List Answered) → map line_in (with_replies lines replies) ≡ map line_in lines
 lines-replies lines [] = refl
 lines-replies lines (reply ∷ replies) = lines-replies (with_answered lines reply) replies ∙ lines-change reply.line (λ phase. Replied) lines
 
-pub lines-heard : (job : Option Job) (answer : Brief) (lines : List Standing) → map line_of (owner_hears job answer lines) ≡ map line_of lines
+pub lines-heard : (job : Option Job) (answer : Brief) (lines : List Standing) → map line_in (hears job answer lines) ≡ map line_in lines
 lines-heard None answer lines = refl
-lines-heard (Some job) answer lines = go job.owner
-  where
-    go : (o : Owner) → map line_of (owner_hears (Some (record { number = job.number; owner = o; call = job.call; phase = job.phase })) answer lines) ≡ map line_of lines
-    go (owner.Line n) = lines-change n (heard answer) lines
+lines-heard (Some job) answer lines = lines-change job.line (heard answer) lines
 
-pub lines-event : (lines : List Standing) (jobs : List Job) (event : Event) → map line_of (lines_at lines jobs event) ≡ map line_of lines
+pub lines-event : (lines : List Standing) (jobs : List Job) (event : Event) → map line_in (lines_at lines jobs event) ≡ map line_in lines
 lines-event lines jobs (Begin line time) = lines-change line (λ phase. Begun []) lines
 lines-event lines jobs (Take job time from) = refl
 lines-event lines jobs (Done job position answer) = lines-heard (job_at job jobs) answer lines
 
-pub lines-after : (state : ClientState) (step : Step) → map line_of (after state step).lines ≡ map line_of state.lines
+pub lines-after : (state : ClientState) (step : Step) → map line_in (after state step).lines ≡ map line_in state.lines
 lines-after state step = lines-replies (lines_at state.lines state.jobs step.event) step.replies ∙ lines-event state.lines state.jobs step.event
 
-pub lines-steps : (state : ClientState) (steps : List Step) → map line_of (fold after state steps).lines ≡ map line_of state.lines
+pub lines-steps : (state : ClientState) (steps : List Step) → map line_in (fold after state steps).lines ≡ map line_in state.lines
 lines-steps state [] = refl
 lines-steps state (step ∷ steps) = lines-steps (after state step) steps ∙ lines-after state step
 
-pub lines-opening : (script : List Line) → map line_of (opening script).lines ≡ script
+pub lines-opening : (script : List Line) → map line_in (opening script).lines ≡ script
 lines-opening [] = refl
 lines-opening (line ∷ script) = ap (λ t. line ∷ t) (lines-opening script)
 
 -- the lines of each state are those of the script
-pub lines_of_run : (script : List Line) (steps : List Step) → map line_of (state_after script steps).lines ≡ script
+pub lines_of_run : (script : List Line) (steps : List Step) → map line_in (state_after script steps).lines ≡ script
 lines_of_run script steps = lines-steps (opening script) steps ∙ lines-opening script
 
 -- looking up after a change

@@ -4,13 +4,15 @@ use Rattle.std.specs.List.{AllByRecursion}
 use Rattle.bucket_model.specs.Along.{Along}
 use Rattle.bucket_model.specs.declared.answer.Brief.{Brief}
 use Rattle.mount_model.specs.declared.request.Request.{Request}
-use Rattle.mount_model.specs.declared.request.Request.TheVariants.{Put, Await, Stat}
+use Rattle.mount_model.specs.declared.request.Request.TheVariants.{Put, Await, Stat, OpenRead, Read, Close, Delete}
 use Rattle.mount_model.specs.declared.request.Reply.{Reply}
 use Rattle.mount_model.specs.declared.request.Reply.TheVariants as reply
 use Rattle.mp_types.specs.declared.errno.Errno.TheVariants.{Enomem}
+use Rattle.mount_model.specs.declared.handle.Handle.{Handle}
 use Rattle.mount_model.specs.declared.request.Line.{Line}
 use Rattle.mount_model.specs.declared.event.Event.{Event}
 use Rattle.mount_model.specs.declared.event.Event.TheVariants.{Begin, Take, Done}
+use Rattle.mount_model.specs.declared.event.Owner.{Owner}
 use Rattle.mount_model.specs.declared.event.Ask.{Ask}
 use Rattle.mount_model.specs.declared.event.Answered.{Answered}
 use Rattle.mount_model.specs.declared.standing.Phase.{Phase}
@@ -18,14 +20,15 @@ use Rattle.mount_model.specs.declared.standing.Phase.TheVariants.{Waiting, Begun
 use Rattle.mount_model.specs.declared.standing.Standing.{Standing}
 use Rattle.mount_model.specs.Step.{Step}
 use Rattle.mount_model.specs.State.{ClientState, Job, line_at, change_line, lines_at, with_replies, opening, after, state_after}
-use Rattle.mount_model.specs.Conversation.{Next, Asks, Replies, Waits, next_of}
+use Rattle.mount_model.specs.Conversation.{Next, Asks, Replies, Opens, Gives, Waits, next_of}
+use Rattle.mount_model.specs.Handles.{handle_of}
 use Rattle.mount_model.specs.Run.{AreRising, MayCome, TakesTurn, Turn, TurnOf, turn_at, due_awaits, IsLegalStep, IsRunSoFar, IsRun}
 use Rattle.run_laws.specs.Alive.{total, IsAlive}
 use Rattle.run_laws.specs.Order.{Rises, reply_line}
 use Rattle.run_laws.specs.Once.{begins, replies_to, begins_in, replies_in, begun_in, replied_in, for_phase}
 use Rattle.run_laws.proofs.Keyed.{item_at-key, total-append}
 use Rattle.run_laws.proofs.Quiet.{each-line}
-use Rattle.run_laws.proofs.Lines.{line_of, number_of, Rises-lines, line_at-same, line_at-other, with_replies-append, lines_of_run}
+use Rattle.run_laws.proofs.Lines.{line_in, number_of, Rises-lines, line_at-same, line_at-other, with_replies-append, lines_of_run}
 use Rattle.run_laws.proofs.Settled.{standing, settled, settled-is, due-rise}
 use Rattle.run_laws.proofs.Turn.{IsOpen, by_number}
 use Rattle.run_laws.proofs.Alive.{IsOpened, begin-opens, done-opens, closed-event, alive-step, opening-alive, alive}
@@ -69,13 +72,17 @@ settled-moves-cons m number actor Await (Begun answers) lines r moves = go (numb
         record { begun_is = rw is refl; replied_is = rw is (omega arith) }
     go false is = record { begun_is = rw is moves.begun_is; replied_is = rw is (let more = moves.replied_is in omega arith) }
 settled-moves-cons m number actor (Stat path) (Begun answers) lines r moves = no-move m (standing number actor (Stat path) (Begun answers) ∷ lines)
+settled-moves-cons m number actor (OpenRead name path) (Begun answers) lines r moves = no-move m (standing number actor (OpenRead name path) (Begun answers) ∷ lines)
+settled-moves-cons m number actor (Read name offset count) (Begun answers) lines r moves = no-move m (standing number actor (Read name offset count) (Begun answers) ∷ lines)
+settled-moves-cons m number actor (Close name) (Begun answers) lines r moves = no-move m (standing number actor (Close name) (Begun answers) ∷ lines)
+settled-moves-cons m number actor (Delete key) (Begun answers) lines r moves = no-move m (standing number actor (Delete key) (Begun answers) ∷ lines)
 settled-moves-cons m number actor request Replied lines r moves = moves-past m (standing number actor request Replied) (total (replies_to m) (due_awaits lines)) lines (settled lines) (λ same. no-replies m number (due_awaits lines) (omega arith) r) moves
 
 settled-moves : (m above : ℕ) (lines : List Standing) → Rises number_of above lines → Moves m 0 (total (replies_to m) (due_awaits lines)) lines (settled lines)
 settled-moves m above [] r = record { begun_is = refl; replied_is = refl }
 settled-moves m above (s ∷ lines) r = settled-moves-cons m s.line.number s.line.actor s.line.request s.phase lines (due-rise s.line.number lines r.1) (settled-moves m s.line.number lines r.1)
 
-due-moves : (m : ℕ) (lines : List Standing) → AreRising 0 (map line_of lines) → Moves m 0 (total (replies_to m) (due_awaits lines)) lines (with_replies lines (due_awaits lines))
+due-moves : (m : ℕ) (lines : List Standing) → AreRising 0 (map line_in lines) → Moves m 0 (total (replies_to m) (due_awaits lines)) lines (with_replies lines (due_awaits lines))
 due-moves m lines rising =
     let rises = Rises-lines 0 lines rising in
     subst (λ (t : List Standing). Moves m 0 (total (replies_to m) (due_awaits lines)) lines t) (sym (settled-is 0 lines rises)) (settled-moves m 0 lines rises)
@@ -118,16 +125,19 @@ own-moves n line answers lines jobs said opened = by_number n (λ m. Moves m 0 (
     let none : replies_to m (record { line = n; reply = said }) ≡ 0 = rw other refl in
     record { begun_is = omega arith; replied_is = omega arith })
 
-turn-moves : (n count : ℕ) (line : Line) (answers : List Brief) (lines : List Standing) (jobs : List Job) (asks : List Ask) (own : List Answered) → IsOpen n line answers lines jobs → TakesTurn count (TurnOf n (next_of line.request answers)) asks own → (m : ℕ) → Moves m 0 (total (replies_to m) own) lines (with_replies lines own)
-turn-moves n count line answers lines jobs asks own opened turn m = go (next_of line.request answers) turn
+turn-moves : (n count : ℕ) (owner : Owner) (handle : Option Handle) (line : Line) (answers : List Brief) (lines : List Standing) (jobs : List Job) (asks : List Ask) (own : List Answered) → IsOpen n line answers lines jobs → TakesTurn count (TurnOf n owner (next_of handle line.request answers)) asks own → (m : ℕ) → Moves m 0 (total (replies_to m) own) lines (with_replies lines own)
+turn-moves n count owner handle line answers lines jobs asks own opened turn m = go (next_of handle line.request answers) turn
   where
     moves_by : (replied : List Answered) → own ≡ replied → Moves m 0 (total (replies_to m) replied) lines (with_replies lines replied) → Moves m 0 (total (replies_to m) own) lines (with_replies lines own)
     moves_by replied e moves = subst (λ (t : List Answered). Moves m 0 (total (replies_to m) t) lines (with_replies lines t)) (sym e) moves
 
-    go : (next : Next) → TakesTurn count (TurnOf n next) asks own → Moves m 0 (total (replies_to m) own) lines (with_replies lines own)
+    go : (next : Next) → TakesTurn count (TurnOf n owner next) asks own → Moves m 0 (total (replies_to m) own) lines (with_replies lines own)
     go (Asks called) (inl t) = moves_by [] t.1 (no-move m lines)
     go (Asks called) (inr t) = moves_by _ t.1 (own-moves n line answers lines jobs (reply.Failed Enomem) opened m)
     go (Replies said) t = moves_by _ t.1 (own-moves n line answers lines jobs said opened m)
+    go (Opens version) (inl t) = moves_by _ t.1 (own-moves n line answers lines jobs (reply.Open version.size) opened m)
+    go (Opens version) (inr t) = moves_by _ t.1 (own-moves n line answers lines jobs (reply.Failed Enomem) opened m)
+    go (Gives count) t = moves_by _ t.2.1 (own-moves n line answers lines jobs (reply.Data t.0) opened m)
     go Waits t = moves_by [] t.1 (no-move m lines)
 
 -- a step
@@ -137,12 +147,12 @@ moves-then m begun first second before between behind f s = let f1 = f.begun_is 
 
 opened-moves : (state : ClientState) (event : Event) (asks : List Ask) (own : List Answered) (m : ℕ) → IsOpened state event → TakesTurn (length state.jobs + 1) (turn_at state event) asks own → Moves m (begins m event) (0 + total (replies_to m) own) state.lines (with_replies (lines_at state.lines state.jobs event) own)
 opened-moves state event asks own m opened takes = moves-then m (begins m event) 0 (total (replies_to m) own) state.lines (lines_at state.lines state.jobs event) (with_replies (lines_at state.lines state.jobs event) own) (begun-moves state event opened m)
-    (turn-moves opened.n (length state.jobs + 1) opened.line opened.answers (lines_at state.lines state.jobs event) _ asks own opened.now (subst (λ (t : Turn). TakesTurn (length state.jobs + 1) t asks own) opened.turn takes) m)
+    (turn-moves opened.n (length state.jobs + 1) opened.owner (handle_of opened.line state.handles) opened.line opened.answers (lines_at state.lines state.jobs event) _ asks own opened.now (subst (λ (t : Turn). TakesTurn (length state.jobs + 1) t asks own) opened.turn takes) m)
 
 event-moves : (state : ClientState) (event : Event) (asks : List Ask) (own : List Answered) (m : ℕ) → IsAlive state → MayCome state event → TakesTurn (length state.jobs + 1) (turn_at state event) asks own → Moves m (begins m event) (0 + total (replies_to m) own) state.lines (with_replies (lines_at state.lines state.jobs event) own)
 event-moves state (Begin n time) asks own m alive may takes = opened-moves state (Begin n time) asks own m (begin-opens state n time alive may.1) takes
 event-moves state (Take number time from) asks own m alive may takes = subst (λ (t : List Answered). Moves m 0 (0 + total (replies_to m) t) state.lines (with_replies state.lines t)) (sym takes.1) (no-move m state.lines)
-event-moves state (Done number position answer) asks own m alive may takes = opened-moves state (Done number position answer) asks own m (done-opens state number position answer may.job.owner alive may refl) takes
+event-moves state (Done number position answer) asks own m alive may takes = opened-moves state (Done number position answer) asks own m (done-opens state number position answer alive may) takes
 
 step-moves : (state : ClientState) (step : Step) (m : ℕ) → IsAlive state → IsLegalStep state step → Moves m (begins m step.event) (total (replies_to m) step.replies) state.lines (after state step).lines
 step-moves state step m alive legal =
@@ -225,7 +235,7 @@ found-one P m (first ∷ lines) s all e = go (first.line.number == m) e (found-o
     go true e ih = let same : first ≡ s = cc in subst P same all.0
     go false e ih = ih e
 
-pub each-map : (P : Line → Type 0) (lines : List Standing) → AllByRecursion (λ s. P s.line) lines → AllByRecursion P (map line_of lines)
+pub each-map : (P : Line → Type 0) (lines : List Standing) → AllByRecursion (λ s. P s.line) lines → AllByRecursion P (map line_in lines)
 each-map P [] all = tt
 each-map P (s ∷ lines) all = (all.0, each-map P lines all.1)
 

@@ -3,7 +3,7 @@ use Rattle.std.proofs.Common.{◌≡◌, ℕ, ◌+◌, ◌<◌, List, [], ◌∷
 use Rattle.std.specs.List.{AllByRecursion}
 use Rattle.bucket_model.specs.Along.{Along}
 use Rattle.mount_model.specs.declared.request.Request.{Request}
-use Rattle.mount_model.specs.declared.request.Request.TheVariants.{Put, Await, Stat}
+use Rattle.mount_model.specs.declared.request.Request.TheVariants.{Put, Await, Stat, OpenRead, Read, Close, Delete}
 use Rattle.mount_model.specs.declared.request.Line.{Line}
 use Rattle.mount_model.specs.declared.event.Event.{Event}
 use Rattle.mount_model.specs.declared.event.Event.TheVariants.{Begin, Take, Done}
@@ -14,7 +14,8 @@ use Rattle.mount_model.specs.declared.standing.Phase.TheVariants.{Waiting, Begun
 use Rattle.mount_model.specs.declared.standing.Standing.{Standing}
 use Rattle.mount_model.specs.Step.{Step}
 use Rattle.mount_model.specs.State.{ClientState, change_line, lines_at, with_replies, opening, after}
-use Rattle.mount_model.specs.Conversation.{Next, Asks, Replies, Waits, next_of}
+use Rattle.mount_model.specs.Conversation.{Next, Asks, Replies, Opens, Gives, Waits, next_of}
+use Rattle.mount_model.specs.Handles.{handle_of}
 use Rattle.mount_model.specs.Run.{AreRising, MayCome, TakesTurn, Turn, TurnOf, turn_at, due_awaits, IsLegalStep, IsRunSoFar}
 use Rattle.run_laws.specs.Alive.{IsAlive}
 use Rattle.run_laws.specs.Order.{Rises, asked_job, reply_line, IsInOrder}
@@ -38,6 +39,10 @@ due-past-cons n number actor request Waiting lines others e ih = tt
 due-past-cons n number actor (Put key content) (Begun answers) lines others e ih = tt
 due-past-cons n number actor Await (Begun answers) lines others e ih = absurd (cc)
 due-past-cons n number actor (Stat path) (Begun answers) lines others e ih = tt
+due-past-cons n number actor (OpenRead name path) (Begun answers) lines others e ih = tt
+due-past-cons n number actor (Read name offset count) (Begun answers) lines others e ih = tt
+due-past-cons n number actor (Close name) (Begun answers) lines others e ih = tt
+due-past-cons n number actor (Delete key) (Begun answers) lines others e ih = tt
 due-past-cons n number actor request Replied lines others e ih = ih e
 
 due-past : (above n : ℕ) (lines : List Standing) → Rises number_of above lines → due_awaits lines ≡ [] → Rises reply_line n (due_awaits (change_line n (λ phase. Replied) lines))
@@ -57,7 +62,7 @@ abbrev Ordered : List Standing → List Ask → List Answered → Type 0
 Ordered lines asks own = Rises asked_job 0 asks × Rises reply_line 0 (own ++ due_awaits (with_replies lines own))
 
 order-turn : (state : ClientState) (event : Event) (asks : List Ask) (own : List Answered) → IsAlive state → IsOpened state event → TakesTurn (length state.jobs + 1) (turn_at state event) asks own → Ordered (lines_at state.lines state.jobs event) asks own
-order-turn state event asks own alive opened takes = go (next_of opened.line.request opened.answers) (subst (λ (t : Turn). TakesTurn (length state.jobs + 1) t asks own) opened.turn takes)
+order-turn state event asks own alive opened takes = go (next_of (handle_of opened.line state.handles) opened.line.request opened.answers) (subst (λ (t : Turn). TakesTurn (length state.jobs + 1) t asks own) opened.turn takes)
   where
     lines : List Standing
     lines = lines_at state.lines state.jobs event
@@ -79,17 +84,20 @@ order-turn state event asks own alive opened takes = go (next_of opened.line.req
     ordered_by : (asked : List Ask) (replied : List Answered) → asks ≡ asked → own ≡ replied → Ordered lines asked replied → Ordered lines asks own
     ordered_by asked replied e f o = subst₂ (λ (x : List Ask) (y : List Answered). Ordered lines x y) (sym e) (sym f) o
 
-    go : (next : Next) → TakesTurn (length state.jobs + 1) (TurnOf opened.n next) asks own → Ordered lines asks own
+    go : (next : Next) → TakesTurn (length state.jobs + 1) (TurnOf opened.n opened.owner next) asks own → Ordered lines asks own
     go (Asks called) (inl t) = ordered_by _ _ t.0 t.1 ((omega arith, tt), all)
     go (Asks called) (inr t) = ordered_by _ _ t.0 t.1 (tt, (here, below))
     go (Replies said) t = ordered_by _ _ t.0 t.1 (tt, (here, below))
+    go (Opens version) (inl t) = ordered_by _ _ t.0 t.1 (tt, (here, below))
+    go (Opens version) (inr t) = ordered_by _ _ t.0 t.1 (tt, (here, below))
+    go (Gives count) t = ordered_by _ _ t.2.0 t.2.1 (tt, (here, below))
     go Waits t = ordered_by _ _ t.0 t.1 (tt, all)
 
 order-event : (state : ClientState) (event : Event) (asks : List Ask) (own : List Answered) → IsAlive state → MayCome state event → TakesTurn (length state.jobs + 1) (turn_at state event) asks own → Ordered (lines_at state.lines state.jobs event) asks own
 order-event state (Begin n time) asks own alive may takes = order-turn state (Begin n time) asks own alive (begin-opens state n time alive may.1) takes
 order-event state (Take number time from) asks own alive may takes =
     subst₂ (λ (x : List Ask) (y : List Answered). Ordered state.lines x y) (sym takes.0) (sym takes.1) (tt, due-rise 0 state.lines (Rises-lines 0 state.lines alive.rising))
-order-event state (Done number position answer) asks own alive may takes = order-turn state (Done number position answer) asks own alive (done-opens state number position answer may.job.owner alive may refl) takes
+order-event state (Done number position answer) asks own alive may takes = order-turn state (Done number position answer) asks own alive (done-opens state number position answer alive may) takes
 
 pub in_order : (state : ClientState) (step : Step) → IsAlive state → IsLegalStep state step → IsInOrder step
 in_order state step alive legal =

@@ -2,7 +2,7 @@
 use Rattle.std.proofs.Common.{◌≡◌, ℕ, ◌<◌, List, [], ◌∷◌, cond, Bool, true, false, ◌||◌, ◌==◌, if◌then◌else◌, Some, refl, sym, ap, ◌∙◌, arith, eqb-true, ne_eqb, subst, eq-eqb}
 use Rattle.bucket_model.specs.declared.answer.Brief.{Brief}
 use Rattle.mount_model.specs.declared.request.Request.{Request}
-use Rattle.mount_model.specs.declared.request.Request.TheVariants.{Put, Await, Stat}
+use Rattle.mount_model.specs.declared.request.Request.TheVariants.{Put, Await, Stat, OpenRead, Read, Close, Delete}
 use Rattle.mount_model.specs.declared.request.Line.{Line}
 use Rattle.mount_model.specs.declared.standing.Phase.{Phase}
 use Rattle.mount_model.specs.declared.standing.Phase.TheVariants.{Waiting, Begun, Replied}
@@ -28,7 +28,7 @@ Frees-both actor more less f = record { free = λ a e. go a (actor == a) e }
     go a true e = absurd (cc)
     go a false e = f.free a e
 
-Frees-first : (actor : ℕ) (busy : List ℕ) → Frees (actor ∷ busy) busy
+pub Frees-first : (actor : ℕ) (busy : List ℕ) → Frees (actor ∷ busy) busy
 Frees-first actor busy = record { free = λ a e. go a (actor == a) e }
   where
     go : (a : ℕ) (b : Bool) → (b || is_among a busy) ≡ false → is_among a busy ≡ false
@@ -106,6 +106,10 @@ orderly-settled-cons busy number actor request Waiting lines ih o = o
 orderly-settled-cons busy number actor (Put key content) (Begun answers) lines ih o = o
 orderly-settled-cons busy number actor Await (Begun answers) lines ih o = (o.0, orderly-fewer (settled lines) (actor ∷ busy) busy (Frees-first actor busy) (ih (actor ∷ busy) o.1))
 orderly-settled-cons busy number actor (Stat path) (Begun answers) lines ih o = o
+orderly-settled-cons busy number actor (OpenRead name path) (Begun answers) lines ih o = o
+orderly-settled-cons busy number actor (Read name offset count) (Begun answers) lines ih o = o
+orderly-settled-cons busy number actor (Close name) (Begun answers) lines ih o = o
+orderly-settled-cons busy number actor (Delete key) (Begun answers) lines ih o = o
 orderly-settled-cons busy number actor request Replied lines ih o = (o.0, ih busy o.1)
 
 pub orderly-settled : (lines : List Standing) (busy : List ℕ) → AreOrderly busy lines → AreOrderly busy (settled lines)

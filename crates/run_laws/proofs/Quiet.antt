@@ -2,7 +2,7 @@
 use Rattle.std.proofs.Common.{◌≡◌, ℕ, List, [], ◌∷◌, Some, refl, sym, ap, ◌∙◌, arith}
 use Rattle.std.specs.List.{AllByRecursion}
 use Rattle.mount_model.specs.declared.request.Request.{Request}
-use Rattle.mount_model.specs.declared.request.Request.TheVariants.{Put, Await, Stat}
+use Rattle.mount_model.specs.declared.request.Request.TheVariants.{Put, Await, Stat, OpenRead, Read, Close, Delete}
 use Rattle.mount_model.specs.declared.standing.Phase.{Phase}
 use Rattle.mount_model.specs.declared.standing.Phase.TheVariants.{Waiting, Begun, Replied}
 use Rattle.mount_model.specs.declared.standing.Standing.{Standing}
@@ -12,7 +12,7 @@ use Rattle.mount_model.specs.Step.{Step}
 use Rattle.mount_model.specs.State.{state_after}
 use Rattle.mount_model.specs.Run.{startable_from, startable, due_awaits, AreRising, IsRunSoFar, IsQuiet}
 use Rattle.run_laws.proofs.Alive.{alive}
-use Rattle.run_laws.specs.Alive.{if_live, if_owner, live_job, live_jobs, jobs_wanted, IsAlive}
+use Rattle.run_laws.specs.Alive.{if_live, if_line, live_job, live_jobs, jobs_wanted, IsAlive}
 use Rattle.run_laws.proofs.Keyed.{Rises, item_at-first, item_at-later}
 use Rattle.run_laws.proofs.Lines.{number_of, Rises-lines}
 use Rattle.run_laws.proofs.Settled.{standing}
@@ -20,7 +20,7 @@ use Rattle.run_laws.proofs.Settled.{standing}
 no-live : (n : ℕ) (jobs : List Job) → AllByRecursion (λ job. job.phase ≡ Gone) jobs → live_jobs n jobs ≡ 0
 no-live n [] gone = refl
 no-live n (job ∷ jobs) gone =
-    let first : live_job n job ≡ 0 = ap (λ (p : JobPhase). if_live p (if_owner n job.owner)) gone.0 in
+    let first : live_job n job ≡ 0 = ap (λ (p : JobPhase). if_live p (if_line n job.line)) gone.0 in
     let more = no-live n jobs gone.1 in
     omega arith
 
@@ -34,6 +34,10 @@ answered-cons number actor request Waiting lines none due start ih = absurd (cc)
 answered-cons number actor (Put key content) (Begun answers) lines none due start ih = absurd (omega arith)
 answered-cons number actor Await (Begun answers) lines none due start ih = absurd (cc)
 answered-cons number actor (Stat path) (Begun answers) lines none due start ih = absurd (omega arith)
+answered-cons number actor (OpenRead name path) (Begun answers) lines none due start ih = absurd (omega arith)
+answered-cons number actor (Read name offset count) (Begun answers) lines none due start ih = absurd (omega arith)
+answered-cons number actor (Close name) (Begun answers) lines none due start ih = absurd (omega arith)
+answered-cons number actor (Delete key) (Begun answers) lines none due start ih = absurd (omega arith)
 answered-cons number actor request Replied lines none due start ih = (refl, ih due start)
 
 answered : (lines : List Standing) → AllByRecursion (λ s. jobs_wanted (Some s) ≡ 0) lines → due_awaits lines ≡ [] → startable_from [] lines ≡ [] → AllByRecursion (λ s. s.phase ≡ Replied) lines

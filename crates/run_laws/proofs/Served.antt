@@ -4,14 +4,12 @@ use Rattle.std.proofs.lemmas.Bool.{eqb-false}
 use Rattle.bucket_model.specs.declared.call.Call.{Call}
 use Rattle.bucket_model.specs.declared.answer.Brief.{Brief}
 use Rattle.mount_model.specs.declared.request.Request.{Request}
-use Rattle.mount_model.specs.declared.request.Request.TheVariants.{Put, Await, Stat}
-use Rattle.mount_model.specs.declared.event.Owner.{Owner}
-use Rattle.mount_model.specs.declared.event.Owner.TheVariants as owner
+use Rattle.mount_model.specs.declared.request.Request.TheVariants.{Put, Await, Stat, OpenRead, Read, Close, Delete}
 use Rattle.mount_model.specs.declared.standing.Phase.{Phase}
 use Rattle.mount_model.specs.declared.standing.Phase.TheVariants.{Waiting, Begun, Replied}
 use Rattle.mount_model.specs.declared.standing.Standing.{Standing}
 use Rattle.mount_model.specs.State.{ClientState, Job, JobPhase, Ready, Out, Gone, line_at, job_at}
-use Rattle.run_laws.specs.Alive.{live_job, live_jobs, if_live, if_owner, if_begun, jobs_at_once, jobs_wanted, IsAlive}
+use Rattle.run_laws.specs.Alive.{live_job, live_jobs, if_live, if_line, if_begun, jobs_at_once, jobs_wanted, IsAlive}
 use Rattle.run_laws.specs.Served.{IsOwned, HasJob}
 use Rattle.run_laws.proofs.Keyed.{Rises, item_at-first, item_at-later, total-two}
 use Rattle.run_laws.proofs.Jobs.{job_number, Rises-jobs}
@@ -19,16 +17,13 @@ use Rattle.run_laws.proofs.Alive.{owner-due, owner-live}
 
 -- a live job's line has begun and is no await
 
-await-none : (request : Request) → jobs_at_once request ≡ 1 → request ≢ Await
+pub await-none : (request : Request) → jobs_at_once request ≡ 1 → request ≢ Await
 await-none request one is = let none : jobs_at_once request ≡ 0 = ap jobs_at_once is in absurd (omega arith)
 
-served-by : (state : ClientState) (number : ℕ) (job : Job) (o : Owner) → IsAlive state → job_at number state.jobs ≡ Some job → job.phase ≢ Gone → job.owner ≡ o → IsOwned state job
-served-by state number job (owner.Line n) alive stands live owned =
-    let due = owner-due state number n job alive stands owned live in
-    record { number = n; owned = owned; standing = record { line = due.line; phase = Begun due.answers }; stands = due.stands; answers = due.answers; begun = refl; no_await = await-none due.line.request due.wants }
-
 pub served : (state : ClientState) (number : ℕ) (job : Job) → IsAlive state → job_at number state.jobs ≡ Some job → job.phase ≢ Gone → IsOwned state job
-served state number job alive stands live = served-by state number job job.owner alive stands live refl
+served state number job alive stands live =
+    let due = owner-due state number job.line job alive stands refl live in
+    record { standing = record { line = due.line; phase = Begun due.answers }; stands = due.stands; answers = due.answers; begun = refl; no_await = await-none due.line.request due.wants }
 
 pub owner_turn : (state : ClientState) (number from : ℕ) (job : Job) → IsAlive state → job_at number state.jobs ≡ Some job → job.phase ≡ Out from → IsOwned state job
 owner_turn state number from job alive stands out = served state number job alive stands (λ gone. absurd (cc))
@@ -39,6 +34,10 @@ wanted-request : (request : Request) → jobs_at_once request ≤ 1
 wanted-request (Put key content) = omega arith
 wanted-request Await = omega arith
 wanted-request (Stat path) = omega arith
+wanted-request (OpenRead name path) = omega arith
+wanted-request (Read name offset count) = omega arith
+wanted-request (Close name) = omega arith
+wanted-request (Delete key) = omega arith
 
 wanted-phase : (phase : Phase) (count : ℕ) → count ≤ 1 → if_begun phase count ≤ 1
 wanted-phase Waiting count h = omega arith
@@ -49,10 +48,10 @@ wanted-most : (o : Option Standing) → jobs_wanted o ≤ 1
 wanted-most None = omega arith
 wanted-most (Some s) = wanted-phase s.phase (jobs_at_once s.line.request) (wanted-request s.line.request)
 
-live-one : (n : ℕ) (job : Job) → job.owner ≡ owner.Line n → job.phase ≢ Gone → live_job n job ≡ 1
-live-one n job owned live = ap (λ (o : Owner). if_live job.phase (if_owner n o)) owned ∙ owner-live n job.phase live
+live-one : (n : ℕ) (job : Job) → job.line ≡ n → job.phase ≢ Gone → live_job n job ≡ 1
+live-one n job owned live = ap (λ (m : ℕ). if_live job.phase (if_line n m)) owned ∙ owner-live n job.phase live
 
-pub one_job : (state : ClientState) (i j n : ℕ) (first second : Job) → IsAlive state → job_at i state.jobs ≡ Some first → job_at j state.jobs ≡ Some second → first.phase ≢ Gone → second.phase ≢ Gone → first.owner ≡ owner.Line n → second.owner ≡ owner.Line n → i ≡ j
+pub one_job : (state : ClientState) (i j n : ℕ) (first second : Job) → IsAlive state → job_at i state.jobs ≡ Some first → job_at j state.jobs ≡ Some second → first.phase ≢ Gone → second.phase ≢ Gone → first.line ≡ n → second.line ≡ n → i ≡ j
 one_job state i j n first second alive at_i at_j live other_live owned other_owned = go (i == j) refl
   where
     go : (b : Bool) → (i == j) ≡ b → i ≡ j
@@ -71,20 +70,20 @@ record HasLive (n : ℕ) (jobs : List Job) : Type 0 where
   number : ℕ
   job : Job
   stands : job_at number jobs ≡ Some job
-  owned : job.owner ≡ owner.Line n
+  owned : job.line ≡ n
   live : job.phase ≢ Gone
 
-owned-by : (n : ℕ) (o : Owner) → 1 ≤ if_owner n o → o ≡ owner.Line n
-owned-by n (owner.Line m) h = go (m == n) refl h
+owned-by : (n m : ℕ) → 1 ≤ if_line n m → m ≡ n
+owned-by n m h = go (m == n) refl h
   where
-    go : (b : Bool) → (m == n) ≡ b → 1 ≤ (if b then 1 else 0) → owner.Line m ≡ owner.Line n
-    go true is h = ap owner.Line (eqb-true m n is)
+    go : (b : Bool) → (m == n) ≡ b → 1 ≤ (if b then 1 else 0) → m ≡ n
+    go true is h = eqb-true m n is
     go false is h = absurd (omega arith)
 
-live-first : (above n number : ℕ) (o : Owner) (call : Call) (phase : JobPhase) (jobs : List Job) → 1 ≤ if_live phase (if_owner n o) → HasLive n (record { number = number; owner = o; call = call; phase = phase } ∷ jobs)
-live-first above n number o call Ready jobs h = record { number = number; job = record { number = number; owner = o; call = call; phase = Ready }; stands = item_at-first job_number (record { number = number; owner = o; call = call; phase = Ready }) jobs; owned = owned-by n o h; live = λ e. absurd (cc) }
-live-first above n number o call (Out from) jobs h = record { number = number; job = record { number = number; owner = o; call = call; phase = Out from }; stands = item_at-first job_number (record { number = number; owner = o; call = call; phase = Out from }) jobs; owned = owned-by n o h; live = λ e. absurd (cc) }
-live-first above n number o call Gone jobs h = absurd (omega arith)
+live-first : (above n number line : ℕ) (call : Call) (phase : JobPhase) (jobs : List Job) → 1 ≤ if_live phase (if_line n line) → HasLive n (record { number = number; line = line; call = call; phase = phase } ∷ jobs)
+live-first above n number line call Ready jobs h = record { number = number; job = record { number = number; line = line; call = call; phase = Ready }; stands = item_at-first job_number (record { number = number; line = line; call = call; phase = Ready }) jobs; owned = owned-by n line h; live = λ e. absurd (cc) }
+live-first above n number line call (Out from) jobs h = record { number = number; job = record { number = number; line = line; call = call; phase = Out from }; stands = item_at-first job_number (record { number = number; line = line; call = call; phase = Out from }) jobs; owned = owned-by n line h; live = λ e. absurd (cc) }
+live-first above n number line call Gone jobs h = absurd (omega arith)
 
 live-found : (above n : ℕ) (jobs : List Job) → Rises job_number above jobs → 1 ≤ live_jobs n jobs → HasLive n jobs
 live-found above n [] r h = absurd (omega arith)
@@ -92,12 +91,16 @@ live-found above n (job ∷ jobs) r h = go (live_job n job) refl (live-found job
   where
     go : (w : ℕ) → live_job n job ≡ w → (1 ≤ live_jobs n jobs → HasLive n jobs) → HasLive n (job ∷ jobs)
     go zero is ih = let found = ih (omega arith) in record { number = found.number; job = found.job; stands = item_at-later job_number above found.number job jobs found.job r found.stands; owned = found.owned; live = found.live }
-    go (suc w) is ih = live-first above n job.number job.owner job.call job.phase jobs (omega arith)
+    go (suc w) is ih = live-first above n job.number job.line job.call job.phase jobs (omega arith)
 
 working-request : (request : Request) → request ≢ Await → jobs_at_once request ≡ 1
 working-request (Put key content) other = refl
 working-request Await other = absurd (other refl)
 working-request (Stat path) other = refl
+working-request (OpenRead name path) other = refl
+working-request (Read name offset count) other = refl
+working-request (Close name) other = refl
+working-request (Delete key) other = refl
 
 pub working : (state : ClientState) (n : ℕ) (s : Standing) (answers : List Brief) → IsAlive state → line_at n state.lines ≡ Some s → s.phase ≡ Begun answers → s.line.request ≢ Await → HasJob state n
 working state n s answers alive stands begun other =

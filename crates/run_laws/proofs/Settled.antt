@@ -1,7 +1,7 @@
 -- The lines once all awaits that are due have their replies.
 use Rattle.std.proofs.Common.{◌≡◌, ℕ, ◌<◌, ◌≤◌, List, [], ◌∷◌, cond, Bool, true, false, ◌==◌, Some, refl, ap, ◌∙◌, arith, eq-eqb, ne_eqb}
 use Rattle.mount_model.specs.declared.request.Request.{Request}
-use Rattle.mount_model.specs.declared.request.Request.TheVariants.{Put, Await, Stat}
+use Rattle.mount_model.specs.declared.request.Request.TheVariants.{Put, Await, Stat, OpenRead, Read, Close, Delete}
 use Rattle.mount_model.specs.declared.event.Answered.{Answered}
 use Rattle.mount_model.specs.declared.standing.Phase.{Phase}
 use Rattle.mount_model.specs.declared.standing.Phase.TheVariants.{Waiting, Begun, Replied}
@@ -29,6 +29,10 @@ settled (s ∷ lines) = by_phase s.phase (settled lines)
         by_request (Put key content) = s ∷ lines
         by_request Await = record { line = s.line; phase = Replied } ∷ more
         by_request (Stat path) = s ∷ lines
+        by_request (OpenRead name path) = s ∷ lines
+        by_request (Read name offset count) = s ∷ lines
+        by_request (Close name) = s ∷ lines
+        by_request (Delete key) = s ∷ lines
     by_phase Replied more = s ∷ more
 
 -- the awaits that are due stand in order
@@ -37,6 +41,10 @@ due-rise-cons above number actor request Waiting lines h r = tt
 due-rise-cons above number actor (Put key content) (Begun answers) lines h r = tt
 due-rise-cons above number actor Await (Begun answers) lines h r = (h, r)
 due-rise-cons above number actor (Stat path) (Begun answers) lines h r = tt
+due-rise-cons above number actor (OpenRead name path) (Begun answers) lines h r = tt
+due-rise-cons above number actor (Read name offset count) (Begun answers) lines h r = tt
+due-rise-cons above number actor (Close name) (Begun answers) lines h r = tt
+due-rise-cons above number actor (Delete key) (Begun answers) lines h r = tt
 due-rise-cons above number actor request Replied lines h r = Rises-below reply_line above number (due_awaits lines) (omega arith) r
 
 pub due-rise : (above : ℕ) (lines : List Standing) → Rises number_of above lines → Rises reply_line above (due_awaits lines)
@@ -61,6 +69,10 @@ settled-cons number actor Await (Begun answers) lines r e =
     let first : change_line number (λ phase. Replied) (standing number actor Await (Begun answers) ∷ lines) ≡ standing number actor Await Replied ∷ lines = rw same (ap (λ t. standing number actor Await Replied ∷ t) below) in
     ap (λ t. with_replies t (due_awaits lines)) first ∙ replies-past number (standing number actor Await Replied) lines (due_awaits lines) (omega arith) (due-rise number lines r) ∙ ap (λ t. standing number actor Await Replied ∷ t) e
 settled-cons number actor (Stat path) (Begun answers) lines r e = refl
+settled-cons number actor (OpenRead name path) (Begun answers) lines r e = refl
+settled-cons number actor (Read name offset count) (Begun answers) lines r e = refl
+settled-cons number actor (Close name) (Begun answers) lines r e = refl
+settled-cons number actor (Delete key) (Begun answers) lines r e = refl
 settled-cons number actor request Replied lines r e = replies-past number (standing number actor request Replied) lines (due_awaits lines) (omega arith) (due-rise number lines r) ∙ ap (λ t. standing number actor request Replied ∷ t) e
 
 -- so answered, the lines are these
@@ -74,6 +86,10 @@ settled-due-cons number actor request Waiting lines e = refl
 settled-due-cons number actor (Put key content) (Begun answers) lines e = refl
 settled-due-cons number actor Await (Begun answers) lines e = e
 settled-due-cons number actor (Stat path) (Begun answers) lines e = refl
+settled-due-cons number actor (OpenRead name path) (Begun answers) lines e = refl
+settled-due-cons number actor (Read name offset count) (Begun answers) lines e = refl
+settled-due-cons number actor (Close name) (Begun answers) lines e = refl
+settled-due-cons number actor (Delete key) (Begun answers) lines e = refl
 settled-due-cons number actor request Replied lines e = e
 
 pub settled-due : (lines : List Standing) → due_awaits (settled lines) ≡ []
@@ -90,6 +106,10 @@ settled-wanted-cons n number actor Await (Begun answers) lines e = go (number ==
     go true = refl
     go false = e
 settled-wanted-cons n number actor (Stat path) (Begun answers) lines e = refl
+settled-wanted-cons n number actor (OpenRead name path) (Begun answers) lines e = refl
+settled-wanted-cons n number actor (Read name offset count) (Begun answers) lines e = refl
+settled-wanted-cons n number actor (Close name) (Begun answers) lines e = refl
+settled-wanted-cons n number actor (Delete key) (Begun answers) lines e = refl
 settled-wanted-cons n number actor request Replied lines e = go (number == n)
   where
     go : (b : Bool) → jobs_wanted (cond b (Some (standing number actor request Replied)) (line_at n (settled lines))) ≡ jobs_wanted (cond b (Some (standing number actor request Replied)) (line_at n lines))

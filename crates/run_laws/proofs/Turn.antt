@@ -1,20 +1,22 @@
 -- The turn of a line: all is served but this line, until it asks, replies or waits.
-use Rattle.std.proofs.Common.{◌≡◌, ℕ, ◌+◌, ◌≤◌, List, [], ◌∷◌, ◌++◌, map, length, Bool, true, false, ◌==◌, Some, inl, inr, refl, sym, ap, ◌∙◌, subst, subst₂, arith, append-nil, eqb-true, eq-eqb, ne_eqb}
+use Rattle.std.proofs.Common.{◌≡◌, ℕ, ◌+◌, ◌≤◌, List, [], ◌∷◌, ◌++◌, map, length, Bool, true, false, ◌==◌, Option, Some, inl, inr, refl, sym, ap, ◌∙◌, subst, subst₂, arith, append-nil, eqb-true, eq-eqb, ne_eqb}
 use Rattle.std.proofs.lemmas.Bool.{eqb-false}
 use Rattle.bucket_model.specs.declared.call.Call.{Call}
 use Rattle.bucket_model.specs.declared.answer.Brief.{Brief}
+use Rattle.mount_model.specs.declared.handle.Handle.{Handle}
 use Rattle.mount_model.specs.declared.request.Line.{Line}
-use Rattle.mount_model.specs.declared.event.Owner.TheVariants as owner
+use Rattle.mount_model.specs.declared.event.Owner.{Owner}
 use Rattle.mount_model.specs.declared.event.Ask.{Ask}
 use Rattle.mount_model.specs.declared.event.Answered.{Answered}
 use Rattle.mount_model.specs.declared.standing.Phase.TheVariants.{Begun, Replied}
 use Rattle.mount_model.specs.declared.standing.Standing.{Standing}
 use Rattle.mount_model.specs.State.{Job, Ready, line_at, change_line, with_replies, job_of}
-use Rattle.mount_model.specs.Conversation.{Next, Asks, Replies, Waits, next_of}
+use Rattle.mount_model.specs.Conversation.{Next, Asks, Replies, Opens, Gives, Waits, next_of}
+use Rattle.mount_model.specs.Handles.{Opened}
 use Rattle.mount_model.specs.Run.{AreRising, TakesTurn, TurnOf, asked_of, due_awaits}
-use Rattle.run_laws.specs.Alive.{total, AreNumbered, live_job, live_jobs, if_owner, jobs_at_once, jobs_wanted, AreOrderly, IsAlive}
+use Rattle.run_laws.specs.Alive.{total, AreNumbered, live_job, live_jobs, if_line, jobs_at_once, jobs_wanted, AreOrderly, IsAlive}
 use Rattle.run_laws.proofs.Keyed.{total-append}
-use Rattle.run_laws.proofs.Lines.{line_of, Rises-lines, lines-change, lines-replies, line_at-same, line_at-other}
+use Rattle.run_laws.proofs.Lines.{line_in, Rises-lines, lines-change, lines-replies, line_at-same, line_at-other}
 use Rattle.run_laws.proofs.Settled.{settled, settled-is, settled-due, settled-wanted}
 use Rattle.run_laws.proofs.Orderly.{orderly-replied, orderly-settled}
 use Rattle.run_laws.proofs.Jobs.{numbered-push}
@@ -24,7 +26,7 @@ use Rattle.run_laws.proofs.Conversation.{only_await_waits, asks-one}
 
 -- it is the turn of this line, which has these answers: all is served but it
 pub record IsOpen (n : ℕ) (line : Line) (answers : List Brief) (lines : List Standing) (jobs : List Job) : Type 0 where
-  pub rising : AreRising 0 (map line_of lines)
+  pub rising : AreRising 0 (map line_in lines)
   pub numbered : AreNumbered 1 jobs
   pub orderly : AreOrderly [] lines
   pub stands : line_at n lines ≡ Some (record { line = line; phase = Begun answers })
@@ -33,7 +35,7 @@ pub record IsOpen (n : ℕ) (line : Line) (answers : List Brief) (lines : List S
 
 -- each line is served
 pub record IsClosed (lines : List Standing) (jobs : List Job) : Type 0 where
-  pub rising : AreRising 0 (map line_of lines)
+  pub rising : AreRising 0 (map line_in lines)
   pub numbered : AreNumbered 1 jobs
   pub orderly : AreOrderly [] lines
   pub balanced : (m : ℕ) → live_jobs m jobs ≡ jobs_wanted (line_at m lines)
@@ -48,28 +50,28 @@ by_number n P here others m = go (m == n) refl
     go true is = subst P (sym (eqb-true m n is)) here
     go false is = others m (eqb-false m n is)
 
-one-job : (n number : ℕ) (call : Call) (jobs : List Job) → live_jobs n jobs ≡ 0 → live_jobs n (jobs ++ record { number = number; owner = owner.Line n; call = call; phase = Ready } ∷ []) ≡ 1
+one-job : (n number : ℕ) (call : Call) (jobs : List Job) → live_jobs n jobs ≡ 0 → live_jobs n (jobs ++ record { number = number; line = n; call = call; phase = Ready } ∷ []) ≡ 1
 one-job n number call jobs none =
-    let job : Job = record { number = number; owner = owner.Line n; call = call; phase = Ready } in
+    let job : Job = record { number = number; line = n; call = call; phase = Ready } in
     let sum = total-append (live_job n) jobs (job ∷ []) in
     let same : (n == n) ≡ true = eq-eqb n n refl in
-    let own : if_owner n (owner.Line n) ≡ 1 = rw same refl in
+    let own : if_line n n ≡ 1 = rw same refl in
     omega arith
 
-other-job : (n m number : ℕ) (call : Call) (jobs : List Job) → (m ≡ n → ⊥) → live_jobs m (jobs ++ record { number = number; owner = owner.Line n; call = call; phase = Ready } ∷ []) ≡ live_jobs m jobs
+other-job : (n m number : ℕ) (call : Call) (jobs : List Job) → (m ≡ n → ⊥) → live_jobs m (jobs ++ record { number = number; line = n; call = call; phase = Ready } ∷ []) ≡ live_jobs m jobs
 other-job n m number call jobs apart =
-    let job : Job = record { number = number; owner = owner.Line n; call = call; phase = Ready } in
+    let job : Job = record { number = number; line = n; call = call; phase = Ready } in
     let sum = total-append (live_job m) jobs (job ∷ []) in
     let other : (n == m) ≡ false = ne_eqb n m (λ e. apart (sym e)) in
-    let own : if_owner m (owner.Line n) ≡ 0 = rw other refl in
+    let own : if_line m n ≡ 0 = rw other refl in
     omega arith
 
-pub close-asks : (n number : ℕ) (line : Line) (answers : List Brief) (lines : List Standing) (jobs : List Job) (call : Call) → IsOpen n line answers lines jobs → jobs_at_once line.request ≡ 1 → number ≡ length jobs + 1 → IsClosed lines (jobs ++ record { number = number; owner = owner.Line n; call = call; phase = Ready } ∷ [])
+pub close-asks : (n number : ℕ) (line : Line) (answers : List Brief) (lines : List Standing) (jobs : List Job) (call : Call) → IsOpen n line answers lines jobs → jobs_at_once line.request ≡ 1 → number ≡ length jobs + 1 → IsClosed lines (jobs ++ record { number = number; line = n; call = call; phase = Ready } ∷ [])
 close-asks n number line answers lines jobs call opened wants is = record {
   rising = opened.rising;
-  numbered = numbered-push 1 jobs (record { number = number; owner = owner.Line n; call = call; phase = Ready }) (omega arith) opened.numbered;
+  numbered = numbered-push 1 jobs (record { number = number; line = n; call = call; phase = Ready }) (omega arith) opened.numbered;
   orderly = opened.orderly;
-  balanced = by_number n (λ m. live_jobs m (jobs ++ record { number = number; owner = owner.Line n; call = call; phase = Ready } ∷ []) ≡ jobs_wanted (line_at m lines))
+  balanced = by_number n (λ m. live_jobs m (jobs ++ record { number = number; line = n; call = call; phase = Ready } ∷ []) ≡ jobs_wanted (line_at m lines))
       (one-job n number call jobs opened.none ∙ sym (ap jobs_wanted opened.stands ∙ wants))
       (λ m apart. other-job n m number call jobs apart ∙ opened.balanced m apart);
 }
@@ -92,21 +94,24 @@ close-wait n line answers lines jobs opened waits = record {
   balanced = by_number n (λ m. live_jobs m jobs ≡ jobs_wanted (line_at m lines)) (opened.none ∙ sym (ap jobs_wanted opened.stands ∙ waits)) opened.balanced;
 }
 
-pub close-turn : (n count : ℕ) (line : Line) (answers : List Brief) (old lines : List Standing) (jobs : List Job) (asks : List Ask) (own : List Answered) → IsOpen n line answers lines jobs → count ≡ length jobs → TakesTurn (count + 1) (TurnOf n (next_of line.request answers)) asks own → IsClosed (with_replies lines own) (jobs ++ map (job_of old) asks)
-close-turn n count line answers old lines jobs asks own opened is turn = go (next_of line.request answers) refl turn
+pub close-turn : (n count : ℕ) (owner : Owner) (handle : Option Handle) (line : Line) (answers : List Brief) (old lines : List Standing) (jobs : List Job) (asks : List Ask) (own : List Answered) → IsOpen n line answers lines jobs → count ≡ length jobs → TakesTurn (count + 1) (TurnOf n owner (next_of handle line.request answers)) asks own → IsClosed (with_replies lines own) (jobs ++ map (job_of old n) asks)
+close-turn n count owner handle line answers old lines jobs asks own opened is turn = go (next_of handle line.request answers) refl turn
   where
-    closed_by : (asked : List Ask) (replied : List Answered) → asks ≡ asked → own ≡ replied → IsClosed (with_replies lines replied) (jobs ++ map (job_of old) asked) → IsClosed (with_replies lines own) (jobs ++ map (job_of old) asks)
-    closed_by asked replied e f closed = subst₂ (λ (x : List Ask) (y : List Answered). IsClosed (with_replies lines y) (jobs ++ map (job_of old) x)) (sym e) (sym f) closed
+    closed_by : (asked : List Ask) (replied : List Answered) → asks ≡ asked → own ≡ replied → IsClosed (with_replies lines replied) (jobs ++ map (job_of old n) asked) → IsClosed (with_replies lines own) (jobs ++ map (job_of old n) asks)
+    closed_by asked replied e f closed = subst₂ (λ (x : List Ask) (y : List Answered). IsClosed (with_replies lines y) (jobs ++ map (job_of old n) x)) (sym e) (sym f) closed
 
-    go : (next : Next) → next_of line.request answers ≡ next → TakesTurn (count + 1) (TurnOf n next) asks own → IsClosed (with_replies lines own) (jobs ++ map (job_of old) asks)
-    go (Asks called) next (inl t) = closed_by _ _ t.0 t.1 (close-asks n (count + 1) line answers lines jobs _ opened (asks-one line.request answers called next) (omega arith))
+    go : (next : Next) → next_of handle line.request answers ≡ next → TakesTurn (count + 1) (TurnOf n owner next) asks own → IsClosed (with_replies lines own) (jobs ++ map (job_of old n) asks)
+    go (Asks called) next (inl t) = closed_by _ _ t.0 t.1 (close-asks n (count + 1) line answers lines jobs _ opened (asks-one handle line.request answers called next) (omega arith))
     go (Asks called) next (inr t) = closed_by _ _ t.0 t.1 (rw append-nil (close-reply n line answers lines jobs opened))
     go (Replies said) next t = closed_by _ _ t.0 t.1 (rw append-nil (close-reply n line answers lines jobs opened))
-    go Waits next t = closed_by _ _ t.0 t.1 (rw append-nil (close-wait n line answers lines jobs opened (only_await_waits line.request answers next)))
+    go (Opens version) next (inl t) = closed_by _ _ t.0 t.1 (rw append-nil (close-reply n line answers lines jobs opened))
+    go (Opens version) next (inr t) = closed_by _ _ t.0 t.1 (rw append-nil (close-reply n line answers lines jobs opened))
+    go (Gives count) next t = closed_by _ _ t.2.0 t.2.1 (rw append-nil (close-reply n line answers lines jobs opened))
+    go Waits next t = closed_by _ _ t.0 t.1 (rw append-nil (close-wait n line answers lines jobs opened (only_await_waits handle line.request answers next)))
 
 -- and the awaits that are due have their replies
-pub settle : (time : ℕ) (lines : List Standing) (jobs : List Job) (positions : List ℕ) → IsClosed lines jobs → IsAlive (record { time = time; lines = with_replies lines (due_awaits lines); jobs = jobs; positions = positions })
-settle time lines jobs positions closed =
+pub settle : (time : ℕ) (lines : List Standing) (jobs : List Job) (positions : List ℕ) (handles : List Opened) → IsClosed lines jobs → IsAlive (record { time = time; lines = with_replies lines (due_awaits lines); jobs = jobs; positions = positions; handles = handles })
+settle time lines jobs positions handles closed =
     let same : with_replies lines (due_awaits lines) ≡ settled lines = settled-is 0 lines (Rises-lines 0 lines closed.rising) in
     record {
       rising = rw (lines-replies lines (due_awaits lines)) closed.rising;
@@ -118,22 +123,25 @@ settle time lines jobs positions closed =
 
 -- how much is left behind a turn
 
-pub turn-work : (n count : ℕ) (line : Line) (answers : List Brief) (old lines : List Standing) (jobs : List Job) (asks : List Ask) (own : List Answered) → IsOpen n line answers lines jobs → TakesTurn count (TurnOf n (next_of line.request answers)) asks own → total line_work (with_replies lines own) + total job_work (jobs ++ map (job_of old) asks) ≤ total line_work lines + total job_work jobs + asked_work (next_of line.request answers)
-turn-work n count line answers old lines jobs asks own opened turn = go (next_of line.request answers) turn
+pub turn-work : (n count : ℕ) (owner : Owner) (handle : Option Handle) (line : Line) (answers : List Brief) (old lines : List Standing) (jobs : List Job) (asks : List Ask) (own : List Answered) → IsOpen n line answers lines jobs → TakesTurn count (TurnOf n owner (next_of handle line.request answers)) asks own → total line_work (with_replies lines own) + total job_work (jobs ++ map (job_of old n) asks) ≤ total line_work lines + total job_work jobs + asked_work (next_of handle line.request answers)
+turn-work n count owner handle line answers old lines jobs asks own opened turn = go (next_of handle line.request answers) turn
   where
-    left_by : (asked : List Ask) (replied : List Answered) (left : ℕ) → asks ≡ asked → own ≡ replied → total line_work (with_replies lines replied) + total job_work (jobs ++ map (job_of old) asked) ≤ left → total line_work (with_replies lines own) + total job_work (jobs ++ map (job_of old) asks) ≤ left
-    left_by asked replied left e f h = subst₂ (λ (x : List Ask) (y : List Answered). total line_work (with_replies lines y) + total job_work (jobs ++ map (job_of old) x) ≤ left) (sym e) (sym f) h
+    left_by : (asked : List Ask) (replied : List Answered) (left : ℕ) → asks ≡ asked → own ≡ replied → total line_work (with_replies lines replied) + total job_work (jobs ++ map (job_of old n) asked) ≤ left → total line_work (with_replies lines own) + total job_work (jobs ++ map (job_of old n) asks) ≤ left
+    left_by asked replied left e f h = subst₂ (λ (x : List Ask) (y : List Answered). total line_work (with_replies lines y) + total job_work (jobs ++ map (job_of old n) x) ≤ left) (sym e) (sym f) h
 
     by_reply : total line_work (change_line n (λ phase. Replied) lines) + total job_work (jobs ++ []) ≤ total line_work lines + total job_work jobs
     by_reply = let less = replied-work 0 n (record { line = line; phase = Begun answers }) lines (Rises-lines 0 lines opened.rising) opened.stands in rw append-nil (omega arith)
 
-    go : (next : Next) → TakesTurn count (TurnOf n next) asks own → total line_work (with_replies lines own) + total job_work (jobs ++ map (job_of old) asks) ≤ total line_work lines + total job_work jobs + asked_work next
-    go (Asks called) (inl t) = left_by (record { job = count; owner = owner.Line n; call = asked_of called } ∷ []) [] _ t.0 t.1 (let sum = total-append job_work jobs (map (job_of old) (record { job = count; owner = owner.Line n; call = asked_of called } ∷ [])) in omega arith)
+    go : (next : Next) → TakesTurn count (TurnOf n owner next) asks own → total line_work (with_replies lines own) + total job_work (jobs ++ map (job_of old n) asks) ≤ total line_work lines + total job_work jobs + asked_work next
+    go (Asks called) (inl t) = left_by (record { job = count; owner = owner; call = asked_of called } ∷ []) [] _ t.0 t.1 (let sum = total-append job_work jobs (map (job_of old n) (record { job = count; owner = owner; call = asked_of called } ∷ [])) in omega arith)
     go (Asks called) (inr t) = left_by [] _ _ t.0 t.1 (let less = by_reply in omega arith)
     go (Replies said) t = left_by [] _ _ t.0 t.1 (let less = by_reply in omega arith)
+    go (Opens version) (inl t) = left_by [] _ _ t.0 t.1 (let less = by_reply in omega arith)
+    go (Opens version) (inr t) = left_by [] _ _ t.0 t.1 (let less = by_reply in omega arith)
+    go (Gives count) t = left_by [] _ _ t.2.0 t.2.1 (let less = by_reply in omega arith)
     go Waits t = left_by [] [] _ t.0 t.1 (rw append-nil (omega arith))
 
-pub settle-work : (lines : List Standing) → AreRising 0 (map line_of lines) → total line_work (with_replies lines (due_awaits lines)) ≤ total line_work lines
+pub settle-work : (lines : List Standing) → AreRising 0 (map line_in lines) → total line_work (with_replies lines (due_awaits lines)) ≤ total line_work lines
 settle-work lines rising =
     let same : total line_work (with_replies lines (due_awaits lines)) ≡ total line_work (settled lines) = ap (total line_work) (settled-is 0 lines (Rises-lines 0 lines rising)) in
     let less = settled-work lines in

@@ -1,14 +1,15 @@
 -- What each part of a step does to the work that is left.
-use Rattle.std.proofs.Common.{◌≡◌, ℕ, ◌+◌, ◌*◌, ◌<◌, ◌≤◌, List, [], ◌∷◌, ◌++◌, Some, refl, ap, arith}
+use Rattle.std.proofs.Common.{◌≡◌, ℕ, ◌+◌, ◌*◌, ◌<◌, ◌≤◌, List, [], ◌∷◌, ◌++◌, Option, Some, refl, ap, arith}
 use Rattle.bucket_model.specs.declared.answer.Brief.{Brief}
+use Rattle.mount_model.specs.declared.handle.Handle.{Handle}
 use Rattle.mount_model.specs.declared.request.Request.{Request}
-use Rattle.mount_model.specs.declared.request.Request.TheVariants.{Put, Await, Stat}
+use Rattle.mount_model.specs.declared.request.Request.TheVariants.{Put, Await, Stat, OpenRead, Read, Close, Delete}
 use Rattle.mount_model.specs.declared.request.Line.{Line}
 use Rattle.mount_model.specs.declared.standing.Phase.{Phase}
 use Rattle.mount_model.specs.declared.standing.Phase.TheVariants.{Waiting, Begun, Replied}
 use Rattle.mount_model.specs.declared.standing.Standing.{Standing}
 use Rattle.mount_model.specs.State.{Job, Ready, Out, Gone, line_at, job_at, change_line, change_job, heard}
-use Rattle.mount_model.specs.Conversation.{Next, Asks, Replies, Waits, next_of}
+use Rattle.mount_model.specs.Conversation.{Next, Asks, Replies, Opens, Gives, Waits, next_of}
 use Rattle.run_laws.specs.Alive.{total}
 use Rattle.run_laws.specs.Work.{calls_left, line_work, job_work, phase_work}
 use Rattle.run_laws.proofs.Keyed.{Rises, total-change}
@@ -21,30 +22,36 @@ use Rattle.run_laws.proofs.Conversation.{asks-left, left-falls}
 abbrev pub asked_work : Next → ℕ
 asked_work (Asks called) = 2
 asked_work (Replies said) = 0
+asked_work (Opens version) = 0
+asked_work (Gives count) = 0
 asked_work Waits = 0
 
 asked-most : (next : Next) → asked_work next ≤ 2
 asked-most (Asks called) = omega arith
 asked-most (Replies said) = omega arith
+asked-most (Opens version) = omega arith
+asked-most (Gives count) = omega arith
 asked-most Waits = omega arith
 
 -- a line that begins
-pub begin-work : (above n : ℕ) (line : Line) (lines : List Standing) → Rises number_of above lines → line_at n lines ≡ Some (record { line = line; phase = Waiting }) → total line_work (change_line n (λ phase. Begun []) lines) + asked_work (next_of line.request []) < total line_work lines
-begin-work above n line lines r stands =
+pub begin-work : (above n : ℕ) (handle : Option Handle) (line : Line) (lines : List Standing) → Rises number_of above lines → line_at n lines ≡ Some (record { line = line; phase = Waiting }) → total line_work (change_line n (λ phase. Begun []) lines) + asked_work (next_of handle line.request []) < total line_work lines
+begin-work above n handle line lines r stands =
     let moved = total-change number_of line_work (changed (λ phase. Begun [])) above n lines (record { line = line; phase = Waiting }) r stands in
-    let most = asked-most (next_of line.request []) in
+    let most = asked-most (next_of handle line.request []) in
     omega arith
 
 -- an answer leaves one call less, or none is asked
-answer-work : (request : Request) (answers : List Brief) (answer : Brief) (next : Next) → next_of request (answers ++ answer ∷ []) ≡ next → 2 * calls_left request (answers ++ answer ∷ []) + asked_work next ≤ 2 * calls_left request answers
-answer-work request answers answer (Asks called) is = let some = asks-left request (answers ++ answer ∷ []) called is in let falls = left-falls request answer answers in omega arith
-answer-work request answers answer (Replies said) is = let falls = left-falls request answer answers in omega arith
-answer-work request answers answer Waits is = let falls = left-falls request answer answers in omega arith
+answer-work : (handle : Option Handle) (request : Request) (answers : List Brief) (answer : Brief) (next : Next) → next_of handle request (answers ++ answer ∷ []) ≡ next → 2 * calls_left request (answers ++ answer ∷ []) + asked_work next ≤ 2 * calls_left request answers
+answer-work handle request answers answer (Asks called) is = let some = asks-left handle request (answers ++ answer ∷ []) called is in let falls = left-falls request answer answers in omega arith
+answer-work handle request answers answer (Replies said) is = let falls = left-falls request answer answers in omega arith
+answer-work handle request answers answer (Opens version) is = let falls = left-falls request answer answers in omega arith
+answer-work handle request answers answer (Gives count) is = let falls = left-falls request answer answers in omega arith
+answer-work handle request answers answer Waits is = let falls = left-falls request answer answers in omega arith
 
-pub heard-work : (above n : ℕ) (line : Line) (answers : List Brief) (answer : Brief) (lines : List Standing) → Rises number_of above lines → line_at n lines ≡ Some (record { line = line; phase = Begun answers }) → total line_work (change_line n (heard answer) lines) + asked_work (next_of line.request (answers ++ answer ∷ [])) ≤ total line_work lines
-heard-work above n line answers answer lines r stands =
+pub heard-work : (above n : ℕ) (handle : Option Handle) (line : Line) (answers : List Brief) (answer : Brief) (lines : List Standing) → Rises number_of above lines → line_at n lines ≡ Some (record { line = line; phase = Begun answers }) → total line_work (change_line n (heard answer) lines) + asked_work (next_of handle line.request (answers ++ answer ∷ [])) ≤ total line_work lines
+heard-work above n handle line answers answer lines r stands =
     let moved = total-change number_of line_work (changed (heard answer)) above n lines (record { line = line; phase = Begun answers }) r stands in
-    let more = answer-work line.request answers answer (next_of line.request (answers ++ answer ∷ [])) refl in
+    let more = answer-work handle line.request answers answer (next_of handle line.request (answers ++ answer ∷ [])) refl in
     omega arith
 
 pub replied-work : (above n : ℕ) (s : Standing) (lines : List Standing) → Rises number_of above lines → line_at n lines ≡ Some s → total line_work (change_line n (λ phase. Replied) lines) ≤ total line_work lines
@@ -55,6 +62,10 @@ settled-work-cons number actor request Waiting lines h = omega arith
 settled-work-cons number actor (Put key content) (Begun answers) lines h = omega arith
 settled-work-cons number actor Await (Begun answers) lines h = omega arith
 settled-work-cons number actor (Stat path) (Begun answers) lines h = omega arith
+settled-work-cons number actor (OpenRead name path) (Begun answers) lines h = omega arith
+settled-work-cons number actor (Read name offset count) (Begun answers) lines h = omega arith
+settled-work-cons number actor (Close name) (Begun answers) lines h = omega arith
+settled-work-cons number actor (Delete key) (Begun answers) lines h = omega arith
 settled-work-cons number actor request Replied lines h = omega arith
 
 pub settled-work : (lines : List Standing) → total line_work (settled lines) ≤ total line_work lines

@@ -1,9 +1,7 @@
 -- What holds of the mount's state after each step of a run.
 use Rattle.std.specs.Prelude.{◌≡◌, ℕ, ◌+◌, List, [], ◌∷◌, map, false, ◌==◌, if◌then◌else◌, Option, Some, None}
 use Rattle.mount_model.specs.declared.request.Request.{Request}
-use Rattle.mount_model.specs.declared.request.Request.TheVariants.{Put, Await, Stat}
-use Rattle.mount_model.specs.declared.event.Owner.{Owner}
-use Rattle.mount_model.specs.declared.event.Owner.TheVariants as owner
+use Rattle.mount_model.specs.declared.request.Request.TheVariants.{Put, Await, Stat, OpenRead, Read, Close, Delete}
 use Rattle.mount_model.specs.declared.standing.Phase.{Phase}
 use Rattle.mount_model.specs.declared.standing.Phase.TheVariants.{Waiting, Begun, Replied}
 use Rattle.mount_model.specs.declared.standing.Standing.{Standing}
@@ -27,21 +25,26 @@ if_live Ready count = count
 if_live (Out from) count = count
 if_live Gone count = 0
 
-abbrev pub if_owner : ℕ → Owner → ℕ
-if_owner number (owner.Line n) = if n == number then 1 else 0
+abbrev pub if_line : ℕ → ℕ → ℕ
+if_line number line = if line == number then 1 else 0
 
 abbrev pub live_job : ℕ → Job → ℕ
-live_job number job = if_live job.phase (if_owner number job.owner)
+live_job number job = if_live job.phase (if_line number job.line)
 
 abbrev pub live_jobs : ℕ → List Job → ℕ
 live_jobs number jobs = total (live_job number) jobs
 
--- how many it has to have: one where it has begun and waits for no other lines
+-- How many it has to have: one where it has begun and waits for no other lines. A close never stands so,
+-- since it has its reply when it begins.
 
 abbrev pub jobs_at_once : Request → ℕ
 jobs_at_once (Put key content) = 1
 jobs_at_once Await = 0
 jobs_at_once (Stat path) = 1
+jobs_at_once (OpenRead name path) = 1
+jobs_at_once (Read name offset count) = 1
+jobs_at_once (Close name) = 1
+jobs_at_once (Delete key) = 1
 
 abbrev pub if_begun : Phase → ℕ → ℕ
 if_begun Waiting count = 0

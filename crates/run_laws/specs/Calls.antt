@@ -1,19 +1,19 @@
 -- How many jobs a line asks for.
 use Rattle.std.specs.Prelude.{ℕ, ◌-◌, List, [], Option, Some, None}
 use Rattle.mount_model.specs.declared.request.Request.{Request}
-use Rattle.mount_model.specs.declared.event.Ask.{Ask}
 use Rattle.mount_model.specs.declared.standing.Phase.{Phase}
 use Rattle.mount_model.specs.declared.standing.Phase.TheVariants.{Waiting, Begun, Replied}
 use Rattle.mount_model.specs.declared.standing.Standing.{Standing}
-use Rattle.mount_model.specs.Step.{Step}
-use Rattle.run_laws.specs.Alive.{total, if_owner}
+use Rattle.mount_model.specs.State.{Job}
+use Rattle.run_laws.specs.Alive.{total, if_line}
 use Rattle.run_laws.specs.Work.{calls_left}
 
-abbrev pub asks_for : ℕ → Ask → ℕ
-asks_for number ask = if_owner number ask.owner
+abbrev pub job_for : ℕ → Job → ℕ
+job_for number job = if_line number job.line
 
-abbrev pub asks_in : ℕ → List Step → ℕ
-asks_in number steps = total (λ step. total (asks_for number) step.asks) steps
+-- a line's jobs so far, those that are gone too
+abbrev pub jobs_of : ℕ → List Job → ℕ
+jobs_of number jobs = total (job_for number) jobs
 
 -- how many it may still ask for: of what is left after its answers, one call is already asked
 abbrev pub may_ask : Phase → Request → ℕ

@@ -1,5 +1,6 @@
 pub mod Alive
 pub mod Calls
+pub mod Faithful
 pub mod Once
 pub mod Order
 pub mod Served

@@ -2,17 +2,14 @@
 use Rattle.std.specs.Prelude.{◌≡◌, ◌≢◌, ℕ, List, Some}
 use Rattle.bucket_model.specs.declared.answer.Brief.{Brief}
 use Rattle.mount_model.specs.declared.request.Request.TheVariants.{Await}
-use Rattle.mount_model.specs.declared.event.Owner.TheVariants as owner
 use Rattle.mount_model.specs.declared.standing.Phase.TheVariants.{Begun}
 use Rattle.mount_model.specs.declared.standing.Standing.{Standing}
 use Rattle.mount_model.specs.State.{ClientState, Job, Gone, line_at, job_at}
 
--- the job's owner is a line that has begun and is no await
+-- the job's line has begun and is no await
 pub record IsOwned (state : ClientState) (job : Job) : Type 0 where
-  pub number : ℕ
-  pub owned : job.owner ≡ owner.Line number
   pub standing : Standing
-  pub stands : line_at number state.lines ≡ Some standing
+  pub stands : line_at job.line state.lines ≡ Some standing
   pub answers : List Brief
   pub begun : standing.phase ≡ Begun answers
   pub no_await : standing.line.request ≢ Await
@@ -22,5 +19,5 @@ pub record HasJob (state : ClientState) (line : ℕ) : Type 0 where
   pub number : ℕ
   pub job : Job
   pub stands : job_at number state.jobs ≡ Some job
-  pub owned : job.owner ≡ owner.Line line
+  pub owned : job.line ≡ line
   pub live : job.phase ≢ Gone

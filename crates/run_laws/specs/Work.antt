@@ -5,7 +5,7 @@ use Rattle.mp_types.specs.Path.{path_of}
 use Rattle.bucket_model.specs.declared.answer.Brief.{Brief}
 use Rattle.bucket_model.specs.declared.answer.Brief.TheVariants.{Yes, No}
 use Rattle.mount_model.specs.declared.request.Request.{Request}
-use Rattle.mount_model.specs.declared.request.Request.TheVariants.{Put, Await, Stat}
+use Rattle.mount_model.specs.declared.request.Request.TheVariants.{Put, Await, Stat, OpenRead, Read, Close, Delete}
 use Rattle.mount_model.specs.declared.standing.Phase.{Phase}
 use Rattle.mount_model.specs.declared.standing.Phase.TheVariants.{Waiting, Begun, Replied}
 use Rattle.mount_model.specs.declared.standing.Standing.{Standing}
@@ -42,6 +42,10 @@ abbrev pub calls_left : Request → List Brief → ℕ
 calls_left (Put key content) answers = one_left answers
 calls_left Await answers = 0
 calls_left (Stat path) answers = stat_left (path_of path) answers
+calls_left (OpenRead name path) answers = stat_left (path_of path) answers
+calls_left (Read name offset count) answers = one_left answers
+calls_left (Close name) answers = 0
+calls_left (Delete key) answers = one_left answers
 
 -- steps still to come: to begin, and two for each call, to take it and to hear its answer
 

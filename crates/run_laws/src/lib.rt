@@ -1,26 +1,33 @@
-//! The laws of every run of the mount: what holds after each step, that no reply is lost, and that
-//! each run ends. Nothing here is executed: each function is a theorem, and its clauses say it.
+//! The laws of every run of the mount: what holds after each step, that no reply is lost, which bytes a
+//! read gives, and that each run ends. Nothing here is executed: each function is a theorem, and its
+//! clauses say it.
 #![tactic(auto)]
 
-ghost use Rattle.std.specs.Prelude.{◌≡◌, ◌≢◌, ℕ, ◌+◌, ◌*◌, ◌<◌, ◌≤◌, List, [], ◌∷◌, ◌++◌, map, length, Result, Ok, Err, Some};
+ghost use Rattle.std.specs.Prelude.{◌≡◌, ◌≢◌, ℕ, ◌+◌, ◌*◌, ◌<◌, ◌≤◌, List, [], ◌∷◌, ◌++◌, map, length, Option, Some, Result, Ok, Err};
 ghost use Rattle.std.specs.List.{AllByRecursion};
 ghost use Rattle.mp_types.specs.Path.{path_of};
 ghost use Rattle.mp_types.specs.declared.octets.Data.{Data};
 ghost use Rattle.mp_types.specs.declared.path.PathFault.{PathFault};
 ghost use Rattle.bucket_model.specs.declared.call.Call.{Call};
 ghost use Rattle.bucket_model.specs.declared.answer.Brief.{Brief};
+ghost use Rattle.bucket_model.specs.declared.answer.Answer.{Answer};
+ghost use Rattle.bucket_model.specs.Answers.{brief_of, bytes_in, MayBeMade};
+ghost use Rattle.bucket_model.specs.Bucket.{ObjectVersion, IsSlice};
+ghost use Rattle.mount_model.specs.declared.handle.Handle.{Handle};
 ghost use Rattle.mount_model.specs.declared.request.Request.{Request};
 ghost use Rattle.mount_model.specs.declared.request.Request.TheVariants as request;
 ghost use Rattle.mount_model.specs.declared.request.Line.{Line};
-ghost use Rattle.mount_model.specs.declared.event.Owner.TheVariants as owner;
+ghost use Rattle.mount_model.specs.declared.event.Event.TheVariants.{Begin, Take, Done};
 ghost use Rattle.mount_model.specs.declared.standing.Phase.TheVariants.{Begun};
 ghost use Rattle.mount_model.specs.declared.standing.Standing.{Standing};
 ghost use Rattle.mount_model.specs.Conversation.{Asks, next_of};
 ghost use Rattle.mount_model.specs.Step.{Step};
-ghost use Rattle.mount_model.specs.State.{ClientState, Job, Gone, opening, after, state_after, line_at, job_at};
+ghost use Rattle.mount_model.specs.State.{ClientState, Job, Gone, opening, after, state_after, line_at, job_at, next_at};
+ghost use Rattle.mount_model.specs.Reads.{IsReadReply, GivesOnly};
 ghost use Rattle.mount_model.specs.Run.{AreRising, IsLegalStep, IsRunSoFar, IsRun, IsQuiet, startable};
 ghost use Rattle.run_laws.specs.Alive.{IsAlive};
-ghost use Rattle.run_laws.specs.Calls.{asks_in};
+ghost use Rattle.run_laws.specs.Calls.{jobs_of};
+ghost use Rattle.run_laws.specs.Faithful.{IsFaithful};
 ghost use Rattle.run_laws.specs.Order.{IsInOrder};
 ghost use Rattle.run_laws.specs.Once.{begins_in, replies_in, replied_in, for_phase};
 ghost use Rattle.run_laws.specs.Served.{IsOwned, HasJob};
@@ -44,8 +51,31 @@ pub fn no_reply_is_lost()
 /// Jobs that are ready or out, and lines that have begun and are no awaits, belong together one to one.
 pub fn each_job_has_its_line()
     ensures owned { (state : ClientState) (number : ℕ) (job : Job) → IsAlive state → job_at number state.jobs ≡ Some job → job.phase ≢ Gone → IsOwned state job }
-    ensures alone { (state : ClientState) (i j line : ℕ) (first second : Job) → IsAlive state → job_at i state.jobs ≡ Some first → job_at j state.jobs ≡ Some second → first.phase ≢ Gone → second.phase ≢ Gone → first.owner ≡ owner.Line line → second.owner ≡ owner.Line line → i ≡ j }
+    ensures alone { (state : ClientState) (i j line : ℕ) (first second : Job) → IsAlive state → job_at i state.jobs ≡ Some first → job_at j state.jobs ≡ Some second → first.phase ≢ Gone → second.phase ≢ Gone → first.line ≡ line → second.line ≡ line → i ≡ j }
     ensures at_work { (state : ClientState) (number : ℕ) (standing : Standing) (answers : List Brief) → IsAlive state → line_at number state.lines ≡ Some standing → standing.phase ≡ Begun answers → standing.line.request ≢ request.Await → HasJob state number }
+{}
+
+/// A job that is ready or out makes the call that its line does next: neither its line's answers nor the
+/// handles of its line's process change until its own answer comes.
+pub fn each_job_makes_its_call()
+    ensures step { (state : ClientState) (step : Step) → IsAlive state → IsFaithful state → IsLegalStep state step → IsFaithful (after state step) }
+    ensures run { (script : List Line) (steps : List Step) → AreRising 0 script → IsRunSoFar script steps → IsFaithful (state_after script steps) }
+    ensures job { (script : List Line) (steps : List Step) (number : ℕ) (job : Job) → AreRising 0 script → IsRunSoFar script steps → job_at number (state_after script steps).jobs ≡ Some job → job.phase ≢ Gone → next_at (state_after script steps).handles job.line (state_after script steps).lines ≡ Asks job.call }
+{}
+
+/// No job asks for an empty range. This holds of all jobs so far, those that are gone too.
+pub fn calls_may_be_made()
+    ensures asked { (handle : Option Handle) (request : Request) (answers : List Brief) (called : Call) → next_of handle request answers ≡ Asks called → MayBeMade called }
+    ensures run { (script : List Line) (steps : List Step) (number : ℕ) (job : Job) → AreRising 0 script → IsRunSoFar script steps → job_at number (state_after script steps).jobs ≡ Some job → MayBeMade job.call }
+{}
+
+/// A read gives bytes of the version that its handle opened: where an answer's bytes are those of the version and
+/// the range that its call asks for, and a step gives no others, its replies are such reads. A line that begins has
+/// no answer yet, and gives no bytes.
+pub fn reads_are_slices()
+    ensures done { (versions : List ObjectVersion) (script : List Line) (steps : List Step) (step : Step) (number position : ℕ) (said : Answer) (job : Job) → AreRising 0 script → IsRunSoFar script steps → IsLegalStep (state_after script steps) step → step.event ≡ Done number position (brief_of said) → job_at number (state_after script steps).jobs ≡ Some job → IsSlice versions job.call said → AllByRecursion (GivesOnly (bytes_in said)) step.replies → AllByRecursion (IsReadReply versions (state_after script steps)) step.replies }
+    ensures begun { (versions : List ObjectVersion) (script : List Line) (steps : List Step) (step : Step) (line time : ℕ) → AreRising 0 script → IsRunSoFar script steps → IsLegalStep (state_after script steps) step → step.event ≡ Begin line time → AllByRecursion (GivesOnly []) step.replies → AllByRecursion (IsReadReply versions (state_after script steps)) step.replies }
+    ensures taken { (versions : List ObjectVersion) (script : List Line) (steps : List Step) (step : Step) (number time from : ℕ) → AreRising 0 script → IsRunSoFar script steps → IsLegalStep (state_after script steps) step → step.event ≡ Take number time from → AllByRecursion (IsReadReply versions (state_after script steps)) step.replies }
 {}
 
 /// The asks and the replies of a step are in the order in which its text has them.
@@ -68,13 +98,18 @@ pub fn each_run_ends()
     ensures run { (script : List Line) (steps : List Step) → AreRising 0 script → IsRunSoFar script steps → length steps + work_left (state_after script steps) ≤ work_left (opening script) }
 {}
 
-/// A line asks for at most so many jobs as its request has calls: a put has 1, a stat at most 2 for each
-/// name of its path, and an await none.
+/// A line asks for at most so many jobs as its request has calls: a put, a delete and a read have 1, a stat
+/// and an open at most 2 for each name of the path, and a close and an await none.
 pub fn calls_are_few()
-    ensures run { (script : List Line) (steps : List Step) → AreRising 0 script → IsRunSoFar script steps → AllByRecursion (λ line. asks_in line.number steps ≤ calls_left line.request []) script }
-    ensures falls { (request : Request) (answers : List Brief) (called : Call) (answer : Brief) → next_of request answers ≡ Asks called → calls_left request (answers ++ answer ∷ []) < calls_left request answers }
+    ensures run { (script : List Line) (steps : List Step) → AreRising 0 script → IsRunSoFar script steps → AllByRecursion (λ line. jobs_of line.number (state_after script steps).jobs ≤ calls_left line.request []) script }
+    ensures falls { (handle : Option Handle) (request : Request) (answers : List Brief) (called : Call) (answer : Brief) → next_of handle request answers ≡ Asks called → calls_left request (answers ++ answer ∷ []) < calls_left request answers }
     ensures put { (key : List ℕ) (content : Data) → calls_left (request.Put key content) [] ≡ 1 }
     ensures stat { (path : List ℕ) (names : List (List ℕ)) → path_of path ≡ Ok names → calls_left (request.Stat path) [] ≤ 2 * length names }
+    ensures open { (name : ℕ) (path : List ℕ) (names : List (List ℕ)) → path_of path ≡ Ok names → calls_left (request.OpenRead name path) [] ≤ 2 * length names }
+    ensures read { (name offset count : ℕ) → calls_left (request.Read name offset count) [] ≡ 1 }
+    ensures delete { (key : List ℕ) → calls_left (request.Delete key) [] ≡ 1 }
     ensures faulty { (path : List ℕ) (why : PathFault) → path_of path ≡ Err why → calls_left (request.Stat path) [] ≡ 0 }
+    ensures faulty_open { (name : ℕ) (path : List ℕ) (why : PathFault) → path_of path ≡ Err why → calls_left (request.OpenRead name path) [] ≡ 0 }
+    ensures closes { (name : ℕ) → calls_left (request.Close name) [] ≡ 0 }
     ensures waits { calls_left request.Await [] ≡ 0 }
 {}

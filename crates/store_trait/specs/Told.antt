@@ -1,10 +1,11 @@
 -- What one call adds to the history that a store tells.
-use Rattle.std.specs.Prelude.{◌≡◌, ℕ, ◌+◌, ◌-◌, ◌^◌, ◌≤◌, min, List, [], ◌∷◌, ◌++◌, length, Contains, All, Bool, true, false, Option, Some, None}
+use Rattle.std.specs.Prelude.{◌≡◌, ℕ, ◌+◌, List, [], ◌∷◌, ◌++◌, length, Contains, Bool, true, false, Option, Some, None}
 use Rattle.bucket_model.specs.declared.call.Call.{Call}
+use Rattle.bucket_model.specs.declared.answer.Answer.{Answer}
 use Rattle.bucket_model.specs.declared.answer.Brief.{Brief}
 use Rattle.bucket_model.specs.declared.history.Logged.{Logged}
 use Rattle.bucket_model.specs.Answers.{is_counted}
-use Rattle.bucket_model.specs.Bucket.{ObjectVersion}
+use Rattle.bucket_model.specs.Bucket.{ObjectVersion, IsSlice}
 use Rattle.bucket_model.specs.History.{History, IsChange}
 
 -- changes by others alone
@@ -50,3 +51,8 @@ Tells is_alone asked place answer None None = Unit {0}
 Tells is_alone asked place answer (Some old) (Some new) = Adds is_alone asked place answer old new
 Tells is_alone asked place answer None (Some new) = ⊥
 Tells is_alone asked place answer (Some old) None = ⊥
+
+-- bytes that a store brings are those of a version that it tells
+abbrev pub BringsSlice : Call → Answer → Option History → Type 0
+BringsSlice asked answer None = Unit {0}
+BringsSlice asked answer (Some told) = IsSlice told.versions asked answer

@@ -7,5 +7,11 @@ returns-in-Head-clause-told c = adds _ _ _ _ _ _ c.in-Head.is c.head.ensures
 pub returns-in-Probe-clause-told : goal.returns-in-Probe-clause-told
 returns-in-Probe-clause-told c = adds _ _ _ _ _ _ c.in-Probe.is c.probe.ensures
 
+pub returns-in-Get-clause-told : goal.returns-in-Get-clause-told
+returns-in-Get-clause-told c = adds _ _ _ _ _ _ c.in-Get.is c.get.ensures.served
+
+pub returns-in-Delete-clause-told : goal.returns-in-Delete-clause-told
+returns-in-Delete-clause-told c = adds _ _ _ _ _ _ c.in-Delete.is c.delete.ensures
+
 pub returns-in-Put-clause-told : goal.returns-in-Put-clause-told
 returns-in-Put-clause-told c = adds _ _ _ _ _ _ c.in-Put.is c.put.ensures

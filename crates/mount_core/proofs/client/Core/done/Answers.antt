@@ -1,46 +1,52 @@
-use Rattle.std.proofs.Common.{[], ◌∷◌, ◌++◌, Some, sym, ap, ◌∙◌, subst, inr}
-use Rattle.bucket_model.specs.Answers.{brief_of}
+use Rattle.std.proofs.Common.{[], ◌∷◌, ◌++◌, Some, refl, sym, ap, ◌∙◌, subst}
+use Rattle.bucket_model.specs.Answers.{brief_of, bytes_in}
 use Rattle.mount_model.specs.declared.event.Event.TheVariants.{Done}
 use Rattle.mount_model.specs.Step.{step_of}
-use Rattle.mount_model.specs.State.{change_line}
-use Rattle.mount_model.specs.Run.{MayDone, next_at}
+use Rattle.mount_model.specs.Run.{MayDone}
 use Rattle.mount_core.specs.Core.{CoreState, state_of}
-use Rattle.mount_core.specs.Turn.{heard_last, GoesOn}
 use Rattle.mount_core.proofs.Steps.{may_ask}
-use Rattle.mount_core.proofs.Events.{done_leaves, done_out, is_heard, begun_same, has_step_turned, still_busy}
+use Rattle.mount_core.proofs.Turns.{keeps_by}
+use Rattle.mount_core.proofs.Events.{done_leaves, done_out, is_heard, begun_same, has_step_turned, goes_on_as, may_go_on}
 use Rattle.mount_core.proofs.client.Core.done.Goals as goal
 
-pub end_job-owner-requires : goal.end_job-owner-requires
-end_job-owner-requires c = done_out c.self.inside.work c.args.job c.args.position (brief_of c.args.answer) c.self.invariant (subst (λ (w : CoreState). MayDone (state_of w) c.args.job c.args.position (brief_of c.args.answer)) (sym c.self.view_is) c.requires)
+pub end_job-line-requires : goal.end_job-line-requires
+end_job-line-requires c = done_out c.self.inside.work c.args.job c.args.position (brief_of c.args.answer) c.self.invariant (subst (λ (w : CoreState). MayDone (state_of w) c.args.job c.args.position (brief_of c.args.answer)) (sym c.self.view_is) c.requires)
 
 pub due-due-requires : goal.due-due-requires
-due-due-requires c = begun_same c.owning_line-line.result c.self.inside.work.lines c.end_job-owner.new.self.lines c.end_job-owner.ensures.lines (is_heard c.self.inside.work c.args.job c.args.position c.owning_line-line.result (brief_of c.args.answer) c.self.invariant (subst (λ (w : CoreState). MayDone (state_of w) c.args.job c.args.position (brief_of c.args.answer)) (sym c.self.view_is) c.requires) (λ h stands. sym c.owning_line-line.ensures ∙ c.end_job-owner.ensures.owner h stands)).begun
+due-due-requires c = begun_same c.end_job-line.result c.self.inside.work.lines c.end_job-line.new.self.lines c.end_job-line.ensures.lines (is_heard c.self.inside.work c.args.job c.args.position c.end_job-line.result (brief_of c.args.answer) c.self.invariant (subst (λ (w : CoreState). MayDone (state_of w) c.args.job c.args.position (brief_of c.args.answer)) (sym c.self.view_is) c.requires) c.end_job-line.ensures.line).begun
 
 pub go_on-requires-clause-begun : goal.go_on-requires-clause-begun
-go_on-requires-clause-begun c = begun_same c.owning_line-line.result c.self.inside.work.lines c.end_job-owner.new.self.lines c.end_job-owner.ensures.lines (is_heard c.self.inside.work c.args.job c.args.position c.owning_line-line.result (brief_of c.args.answer) c.self.invariant (subst (λ (w : CoreState). MayDone (state_of w) c.args.job c.args.position (brief_of c.args.answer)) (sym c.self.view_is) c.requires) (λ h stands. sym c.owning_line-line.ensures ∙ c.end_job-owner.ensures.owner h stands)).begun
+go_on-requires-clause-begun c = begun_same c.end_job-line.result c.self.inside.work.lines c.end_job-line.new.self.lines c.end_job-line.ensures.lines (is_heard c.self.inside.work c.args.job c.args.position c.end_job-line.result (brief_of c.args.answer) c.self.invariant (subst (λ (w : CoreState). MayDone (state_of w) c.args.job c.args.position (brief_of c.args.answer)) (sym c.self.view_is) c.requires) c.end_job-line.ensures.line).begun
 
-pub go_on-requires-clause-not_idle : goal.go_on-requires-clause-not_idle
-go_on-requires-clause-not_idle c = inr (still_busy c.owning_line-line.result (brief_of c.args.answer) c.brief-brief.result c.self.inside.work.lines c.end_job-owner.new.self.lines c.brief-brief.ensures c.end_job-owner.ensures.lines (is_heard c.self.inside.work c.args.job c.args.position c.owning_line-line.result (brief_of c.args.answer) c.self.invariant (subst (λ (w : CoreState). MayDone (state_of w) c.args.job c.args.position (brief_of c.args.answer)) (sym c.self.view_is) c.requires) (λ h stands. sym c.owning_line-line.ensures ∙ c.end_job-owner.ensures.owner h stands)).not_idle)
+pub go_on-requires-clause-turn : goal.go_on-requires-clause-turn
+go_on-requires-clause-turn c = λ handles keeps.
+    may_go_on c.self.inside.work c.end_job-line.new.self c.args.job c.end_job-line.result c.args.answer c.due-due.result c.brief-brief.result c.bytes_of.result handles
+    (is_heard c.self.inside.work c.args.job c.args.position c.end_job-line.result (brief_of c.args.answer) c.self.invariant (subst (λ (w : CoreState). MayDone (state_of w) c.args.job c.args.position (brief_of c.args.answer)) (sym c.self.view_is) c.requires) c.end_job-line.ensures.line)
+    c.end_job-line.ensures.lines c.brief-brief.ensures c.bytes_of.ensures
+    (keeps_by _ _ handles handles (sym c.end_job-line.ensures.handles) refl keeps)
+    (c.due-due.ensures.means handles keeps)
 
 pub answer_awaits-requires : goal.answer_awaits-requires
-answer_awaits-requires c = has_step_turned c.owning_line-line.result (Some c.brief-brief.result) _ c.end_job-owner.new.self c.go_on.new.self c.go_on.ensures (may_ask c.self.inside.work.record.steps c.end_job-owner.new.self.record.steps _ c.end_job-owner.ensures.steps)
+answer_awaits-requires c =
+    let keeps = keeps_by _ _ _ _ c.end_job-line.ensures.handles refl c.self.invariant.handles in
+    has_step_turned c.end_job-line.result (Some c.brief-brief.result) c.bytes_of.result _ c.end_job-line.new.self c.go_on.new.self (c.go_on.ensures _ keeps) (may_ask c.self.inside.work.record.steps c.end_job-line.new.self.record.steps _ c.end_job-line.ensures.steps)
 
 pub invariant_of-self : goal.invariant_of-self
 invariant_of-self c =
-    let e = c.end_job-owner.ensures in
-    (done_leaves c.self.inside.work c.end_job-owner.new.self c.go_on.new.self c.answer_awaits.new.self c.args.job c.args.position c.owning_line-line.result (brief_of c.args.answer) c.self.invariant (subst (λ (w : CoreState). MayDone (state_of w) c.args.job c.args.position (brief_of c.args.answer)) (sym c.self.view_is) c.requires) (is_heard c.self.inside.work c.args.job c.args.position c.owning_line-line.result (brief_of c.args.answer) c.self.invariant (subst (λ (w : CoreState). MayDone (state_of w) c.args.job c.args.position (brief_of c.args.answer)) (sym c.self.view_is) c.requires) (λ h stands. sym c.owning_line-line.ensures ∙ c.end_job-owner.ensures.owner h stands))
+    let e = c.end_job-line.ensures in
+    (done_leaves c.self.inside.work c.end_job-line.new.self c.go_on.new.self c.answer_awaits.new.self c.args.job c.args.position c.end_job-line.result (brief_of c.args.answer) (bytes_in c.args.answer) c.self.invariant (subst (λ (w : CoreState). MayDone (state_of w) c.args.job c.args.position (brief_of c.args.answer)) (sym c.self.view_is) c.requires) (is_heard c.self.inside.work c.args.job c.args.position c.end_job-line.result (brief_of c.args.answer) c.self.invariant (subst (λ (w : CoreState). MayDone (state_of w) c.args.job c.args.position (brief_of c.args.answer)) (sym c.self.view_is) c.requires) c.end_job-line.ensures.line)
     e.time
     (e.steps ∙ ap (λ b. c.self.inside.work.record.steps ++ step_of (Done c.args.job c.args.position b) ∷ []) c.brief.ensures)
-    e.lines e.count e.held
-    (subst (λ b. GoesOn c.owning_line-line.result (Some b) (next_at c.owning_line-line.result (change_line c.owning_line-line.result (heard_last (Some b)) c.end_job-owner.new.self.lines)) c.end_job-owner.new.self c.go_on.new.self) c.brief-brief.ensures c.go_on.ensures)
-    c.answer_awaits.ensures).stands
+    e.lines e.count e.held e.handles
+    (goes_on_as c.end_job-line.result _ _ _ _ c.end_job-line.new.self c.go_on.new.self c.brief-brief.ensures c.bytes_of.ensures c.go_on.ensures)
+    c.answer_awaits.ensures.answers c.answer_awaits.ensures.handles).stands
 
 pub returns : goal.returns
 returns c =
-    let e = c.end_job-owner.ensures in
-    rw (← c.self.view_is) ((done_leaves c.self.inside.work c.end_job-owner.new.self c.go_on.new.self c.answer_awaits.new.self c.args.job c.args.position c.owning_line-line.result (brief_of c.args.answer) c.self.invariant (subst (λ (w : CoreState). MayDone (state_of w) c.args.job c.args.position (brief_of c.args.answer)) (sym c.self.view_is) c.requires) (is_heard c.self.inside.work c.args.job c.args.position c.owning_line-line.result (brief_of c.args.answer) c.self.invariant (subst (λ (w : CoreState). MayDone (state_of w) c.args.job c.args.position (brief_of c.args.answer)) (sym c.self.view_is) c.requires) (λ h stands. sym c.owning_line-line.ensures ∙ c.end_job-owner.ensures.owner h stands))
+    let e = c.end_job-line.ensures in
+    rw (← c.self.view_is) ((done_leaves c.self.inside.work c.end_job-line.new.self c.go_on.new.self c.answer_awaits.new.self c.args.job c.args.position c.end_job-line.result (brief_of c.args.answer) (bytes_in c.args.answer) c.self.invariant (subst (λ (w : CoreState). MayDone (state_of w) c.args.job c.args.position (brief_of c.args.answer)) (sym c.self.view_is) c.requires) (is_heard c.self.inside.work c.args.job c.args.position c.end_job-line.result (brief_of c.args.answer) c.self.invariant (subst (λ (w : CoreState). MayDone (state_of w) c.args.job c.args.position (brief_of c.args.answer)) (sym c.self.view_is) c.requires) c.end_job-line.ensures.line)
     e.time
     (e.steps ∙ ap (λ b. c.self.inside.work.record.steps ++ step_of (Done c.args.job c.args.position b) ∷ []) c.brief.ensures)
-    e.lines e.count e.held
-    (subst (λ b. GoesOn c.owning_line-line.result (Some b) (next_at c.owning_line-line.result (change_line c.owning_line-line.result (heard_last (Some b)) c.end_job-owner.new.self.lines)) c.end_job-owner.new.self c.go_on.new.self) c.brief-brief.ensures c.go_on.ensures)
-    c.answer_awaits.ensures).advances)
+    e.lines e.count e.held e.handles
+    (goes_on_as c.end_job-line.result _ _ _ _ c.end_job-line.new.self c.go_on.new.self c.brief-brief.ensures c.bytes_of.ensures c.go_on.ensures)
+    c.answer_awaits.ensures.answers c.answer_awaits.ensures.handles).advances)

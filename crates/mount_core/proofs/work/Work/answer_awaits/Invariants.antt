@@ -10,6 +10,7 @@ abbrev pub invariant-loop-line : goal.invariant-loop-line
 invariant-loop-line l =
     HasStep l.self.record.steps
     × ((replies : List Answered) × (replies ++ due_awaits l.self.lines ≡ due_awaits l.initial.self.lines) × Answers replies l.initial.self l.self)
+    × (l.self.handles ≡ l.initial.self.handles)
 
 abbrev pub decreases-loop-line : goal.decreases-loop-line
 decreases-loop-line l = length (due_awaits l.self.lines)

@@ -1,0 +1,43 @@
+-- The entries of calls that failed or were handed on.
+use Rattle.std.specs.Prelude.{Bool, true, false, List, [], ◌∷◌, Option, Some, None}
+use Rattle.bucket_model.specs.declared.call.Call.{Call}
+use Rattle.bucket_model.specs.declared.answer.Answer.{Answer}
+use Rattle.bucket_model.specs.declared.answer.Answer.TheVariants as answer
+use Rattle.bucket_model.specs.declared.answer.Brief.{Brief}
+use Rattle.bucket_model.specs.declared.answer.Brief.TheVariants.{Found, Missing, Yes, No, Bytes, Changed, Gone, Made, Fault, NoMemory}
+use Rattle.bucket_model.specs.declared.history.Name.{Name}
+use Rattle.bucket_model.specs.declared.history.Name.TheVariants.{Version}
+use Rattle.bucket_model.specs.declared.history.Logged.{Logged}
+use Rattle.bucket_model.specs.Answers.{brief_of}
+
+-- the name that an answer tells of
+abbrev pub made_by : Brief → Option Name
+made_by (Made etag) = Some (Version etag)
+made_by (Found etag size) = None
+made_by Missing = None
+made_by Yes = None
+made_by No = None
+made_by (Bytes count) = None
+made_by Changed = None
+made_by Gone = None
+made_by Fault = None
+made_by NoMemory = None
+
+-- a call that took no effect
+abbrev pub entry_before : Call → Logged
+entry_before asked = record { entry = record { call = asked; answer = Fault; took = false }; made = None }
+
+-- a call that took effect with the second answer, where its caller was told the first
+abbrev pub entry_after : Call → Brief → Brief → Logged
+entry_after asked told said = record { entry = record { call = asked; answer = told; took = true }; made = made_by said }
+
+-- what the caller is told: a fault where that hides an answer which has an entry
+abbrev pub shown : Bool → Bool → Answer → Answer
+shown true true said = answer.Fault
+shown true false said = said
+shown false hides said = said
+
+-- what the log gets: nothing where the answer has no entry
+abbrev pub entries_of : Bool → Bool → Call → Answer → List Logged
+entries_of true hides asked said = entry_after asked (brief_of (shown true hides said)) (brief_of said) ∷ []
+entries_of false hides asked said = []

@@ -1,0 +1,7 @@
+pub mod Called
+pub mod Change
+pub mod Counts
+pub mod Entries
+pub mod Faulty
+pub mod FaultyLaws
+pub mod Meddled

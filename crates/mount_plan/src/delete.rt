@@ -1,0 +1,28 @@
+ghost use Rattle.std.specs.Prelude.{◌≡◌, List, ℕ, ◌∷◌, ◌++◌, option_copied, option_to_list};
+ghost use Rattle.bucket_model.specs.declared.answer.Brief.{Brief};
+ghost use Rattle.mount_model.specs.Conversation.{Replies, delete_next};
+ghost use Rattle.mount_plan.specs.Meant.{Means};
+
+use crate::Plan;
+use crate::answered::{errno, first_answer};
+use bucket_model::Brief;
+use mount_model::Reply;
+use mp_types::Key;
+
+fn delete_reply(answer: &Brief) -> Reply
+    ensures { (key : List ℕ) (answers : List Brief) → delete_next key (answer.now ∷ answers) ≡ Replies result }
+{
+    match answer {
+        Brief::Gone => Reply::Gone,
+        _ => Reply::Failed(errno(answer)),
+    }
+}
+
+pub fn delete_plan<'a>(key: &'a Key, answers: &[Brief], last: Option<&Brief>) -> Plan<'a>
+    ensures { Means result (delete_next key.now (answers.now ++ option_to_list (option_copied last.entry))) }
+{
+    match first_answer(answers, last) {
+        Some(answer) => Plan::Reply(delete_reply(answer)),
+        None => Plan::Delete(key),
+    }
+}

@@ -1,0 +1,65 @@
+ghost use Rattle.std.specs.Prelude.{◌≡◌, ◌<◌, ◌∷◌, ◌++◌, List, None, Some, MatchOption, option_copied, option_to_list};
+ghost use Rattle.bucket_model.specs.declared.answer.Brief.{Brief};
+ghost use Rattle.mount_model.specs.declared.handle.Version.{Version};
+ghost use Rattle.mount_model.specs.Conversation.{Range, range_in, range_next, read_next};
+ghost use Rattle.mount_plan.specs.Meant.{Means};
+
+use crate::Plan;
+use crate::answered::{errno, first_answer};
+use crate::planned::failed;
+use bucket_model::Brief;
+use mount_model::{Handle, Version};
+use mp_types::Errno;
+
+// The first place that a read asks for, and the one behind its last, both inside an object of this size.
+fn places_in(offset: u64, count: u64, size: u64) -> Option<(u64, u64)>
+    ensures { MatchOption result (range_in offset count size ≡ None) (λ places. (range_in offset count size ≡ Some (record { from = places.0; to = places.1 })) × (places.0 < places.1)) }
+{
+    if count == 0 || size <= offset {
+        return None;
+    }
+    Some((offset, offset.saturating_add(count).min(size)))
+}
+
+fn got<'a>(answer: &Brief) -> Plan<'a>
+    ensures { (version : Version) (range : Range) (answers : List Brief) → Means result (range_next version (Some range) (answer.now ∷ answers)) }
+{
+    match answer {
+        Brief::Bytes { length } => Plan::Give { count: *length },
+        Brief::Changed | Brief::Missing => failed(Errno::Estale),
+        _ => failed(errno(answer)),
+    }
+}
+
+fn version_plan<'a>(
+    version: &'a Version,
+    offset: u64,
+    count: u64,
+    answers: &[Brief],
+    last: Option<&Brief>,
+) -> Plan<'a>
+    ensures { Means result (range_next version.now (range_in offset count version.now.size) (answers.now ++ option_to_list (option_copied last.entry))) }
+{
+    let Some((from, to)) = places_in(offset, count, version.size) else {
+        return Plan::Give { count: 0 };
+    };
+    match first_answer(answers, last) {
+        Some(answer) => got(answer),
+        None => Plan::Get { version, from, to },
+    }
+}
+
+pub fn read_plan<'a>(
+    handle: Option<&'a Handle>,
+    offset: u64,
+    count: u64,
+    answers: &[Brief],
+    last: Option<&Brief>,
+) -> Plan<'a>
+    ensures { Means result (read_next (option_copied handle.entry) offset count (answers.now ++ option_to_list (option_copied last.entry))) }
+{
+    match handle {
+        Some(handle) => version_plan(&handle.version, offset, count, answers, last),
+        None => failed(Errno::Ebadf),
+    }
+}

@@ -1,6 +1,0 @@
-use Rattle.std.proofs.Common.{arith}
-use Rattle.mp_script.proofs.Numbers.{next_digit}
-use Rattle.mp_script.proofs.word.number_up_to_1000.Goals as goal
-
-pub loop-digit-preserved : goal.loop-digit-preserved
-loop-digit-preserved c = record { small = omega arith; same = next_digit c.loop-digit.number c.min-number.result c.loop-digit.digit-index _ c.args.digits.now c.loop-digit-test.true (omega arith) c.loop-digit.invariant.same }

@@ -1,0 +1,384 @@
+-- Each job that is ready or out makes the call that its line does next.
+use Rattle.std.proofs.Common.{◌≡◌, ◌≢◌, ℕ, ◌+◌, List, [], ◌∷◌, ◌++◌, map, fold, length, cond, Bool, true, false, ◌||◌, ◌==◌, Option, Some, None, inl, inr, refl, sym, ap, ◌∙◌, subst, eqb-true, eq-eqb}
+use Rattle.std.proofs.lemmas.Bool.{eqb-false}
+use Rattle.std.specs.List.{AllByRecursion}
+use Rattle.bucket_model.specs.Along.{Along}
+use Rattle.bucket_model.specs.Answers.{MayBeMade}
+use Rattle.bucket_model.specs.declared.call.Call.{Call}
+use Rattle.bucket_model.specs.declared.call.Call.TheVariants as call
+use Rattle.bucket_model.specs.declared.answer.Brief.{Brief}
+use Rattle.mount_model.specs.declared.request.Line.{Line}
+use Rattle.mount_model.specs.declared.event.Owner.{Owner}
+use Rattle.mount_model.specs.declared.event.Event.{Event}
+use Rattle.mount_model.specs.declared.event.Event.TheVariants.{Begin, Take, Done}
+use Rattle.mount_model.specs.declared.event.Ask.{Ask}
+use Rattle.mount_model.specs.declared.event.Answered.{Answered}
+use Rattle.mount_model.specs.declared.standing.Phase.{Phase}
+use Rattle.mount_model.specs.declared.standing.Phase.TheVariants.{Waiting, Begun, Replied}
+use Rattle.mount_model.specs.declared.standing.Standing.{Standing}
+use Rattle.mount_model.specs.Step.{Step}
+use Rattle.mount_model.specs.Conversation.{Next, Asks, Replies, Opens, Gives, Waits, next_of}
+use Rattle.mount_model.specs.Handles.{Opened, handle_of}
+use Rattle.mount_model.specs.State.{ClientState, Job, JobPhase, Ready, Out, Gone, line_at, job_at, change_job, lines_at, jobs_at, line_of, next_in, next_at, content_in, content_of, whole_call, job_of, jobs_asked, opening, after, state_after}
+use Rattle.mount_model.specs.Run.{AreRising, is_among, startable, asked_of, TakesTurn, Turn, TurnOf, MayDone, IsLegalStep, IsRunSoFar}
+use Rattle.run_laws.specs.Alive.{AreOrderly, IsAlive}
+use Rattle.run_laws.specs.Faithful.{IsFaithful}
+use Rattle.run_laws.proofs.Lines.{Rises-lines, line_at-other}
+use Rattle.run_laws.proofs.Jobs.{in_phase, Rises-jobs, ready-found}
+use Rattle.run_laws.proofs.Orderly.{Frees-first, busy_below, startable-found}
+use Rattle.run_laws.proofs.Conversation.{Puts, asks-one, asks_made, asks-puts}
+use Rattle.run_laws.proofs.Handles.{effect-other}
+use Rattle.run_laws.proofs.Alive.{IsOpened, owner-due, next_at-begun, line-is, asked-own, begin-opens, done-opens, alive-step, opening-alive}
+use Rattle.run_laws.proofs.Spared.{Spares, left-next}
+use Rattle.run_laws.proofs.Served.{await-none, one_job}
+
+-- two lines that have begun are of two processes
+
+orderly-first : (busy : List ℕ) (line : Line) (phase : Phase) (answers : List Brief) (lines : List Standing) → phase ≡ Begun answers → AreOrderly busy (record { line = line; phase = phase } ∷ lines) → is_among line.actor busy ≡ false
+orderly-first busy line Waiting answers lines is o = absurd (cc)
+orderly-first busy line (Begun others) answers lines is o = o.0
+orderly-first busy line Replied answers lines is o = absurd (cc)
+
+orderly-rest : (busy : List ℕ) (line : Line) (phase : Phase) (lines : List Standing) → AreOrderly busy (record { line = line; phase = phase } ∷ lines) → AreOrderly (busy_below phase line.actor busy) lines
+orderly-rest busy line Waiting lines o = o
+orderly-rest busy line (Begun answers) lines o = o.1
+orderly-rest busy line Replied lines o = o.1
+
+free-above : (busy : List ℕ) (phase : Phase) (actor other : ℕ) → is_among other (busy_below phase actor busy) ≡ false → is_among other busy ≡ false
+free-above busy Waiting actor other free = (Frees-first actor busy).free other free
+free-above busy (Begun answers) actor other free = (Frees-first actor busy).free other free
+free-above busy Replied actor other free = free
+
+orderly-free : (busy : List ℕ) (n : ℕ) (lines : List Standing) (s : Standing) (answers : List Brief) → AreOrderly busy lines → line_at n lines ≡ Some s → s.phase ≡ Begun answers → is_among s.line.actor busy ≡ false
+orderly-free busy n [] s answers o stands is = absurd (cc)
+orderly-free busy n (first ∷ lines) s answers o stands is = go (first.line.number == n) stands (λ later. orderly-free (busy_below first.phase first.line.actor busy) n lines s answers (orderly-rest busy first.line first.phase lines o) later is)
+  where
+    go : (b : Bool) → cond b (Some first) (line_at n lines) ≡ Some s → (line_at n lines ≡ Some s → is_among s.line.actor (busy_below first.phase first.line.actor busy) ≡ false) → is_among s.line.actor busy ≡ false
+    go true stands ih =
+        let same : first ≡ s = cc in
+        let begun : first.phase ≡ Begun answers = ap (λ (t : Standing). t.phase) same ∙ is in
+        let free : is_among first.line.actor busy ≡ false = orderly-first busy first.line first.phase answers lines begun o in
+        subst (λ (t : Standing). is_among t.line.actor busy ≡ false) same free
+    go false stands ih = free-above busy first.phase first.line.actor s.line.actor (ih stands)
+
+-- of a line that has begun and one further down
+apart-below : (busy : List ℕ) (m : ℕ) (first : Standing) (lines : List Standing) (t : Standing) (a b : List Brief) → AreOrderly busy (first ∷ lines) → first.phase ≡ Begun a → line_at m lines ≡ Some t → t.phase ≡ Begun b → first.line.actor ≢ t.line.actor
+apart-below busy m first lines t a b o begun stands is e =
+    let rest = orderly-rest busy first.line first.phase lines o in
+    let busy_now : busy_below first.phase first.line.actor busy ≡ first.line.actor ∷ busy = ap (λ (p : Phase). busy_below p first.line.actor busy) begun in
+    let free = subst (λ (x : List ℕ). is_among t.line.actor x ≡ false) busy_now (orderly-free (busy_below first.phase first.line.actor busy) m lines t b rest stands is) in
+    let same : (first.line.actor == t.line.actor) ≡ true = eq-eqb first.line.actor t.line.actor e in
+    let clash : (first.line.actor == t.line.actor || is_among t.line.actor busy) ≡ true = rw same refl in
+    absurd (cc)
+
+pub orderly-apart : (busy : List ℕ) (n m : ℕ) (lines : List Standing) (s t : Standing) (a b : List Brief) → n ≢ m → AreOrderly busy lines → line_at n lines ≡ Some s → s.phase ≡ Begun a → line_at m lines ≡ Some t → t.phase ≡ Begun b → s.line.actor ≢ t.line.actor
+orderly-apart busy n m [] s t a b apart o at_n is_n at_m is_m = absurd (cc)
+orderly-apart busy n m (first ∷ lines) s t a b apart o at_n is_n at_m is_m = go (first.line.number == n) (first.line.number == m) refl refl at_n at_m (λ later_n later_m. orderly-apart (busy_below first.phase first.line.actor busy) n m lines s t a b apart (orderly-rest busy first.line first.phase lines o) later_n is_n later_m is_m)
+  where
+    go : (c d : Bool) → (first.line.number == n) ≡ c → (first.line.number == m) ≡ d → cond c (Some first) (line_at n lines) ≡ Some s → cond d (Some first) (line_at m lines) ≡ Some t → (line_at n lines ≡ Some s → line_at m lines ≡ Some t → s.line.actor ≢ t.line.actor) → s.line.actor ≢ t.line.actor
+    go true true here there at_n at_m ih = absurd (apart (sym (eqb-true first.line.number n here) ∙ eqb-true first.line.number m there))
+    go true false here there at_n at_m ih =
+        let same : first ≡ s = cc in
+        subst (λ (x : Standing). x.line.actor ≢ t.line.actor) same (apart-below busy m first lines t a b o (ap (λ (x : Standing). x.phase) same ∙ is_n) at_m is_m)
+    go false true here there at_n at_m ih =
+        let same : first ≡ t = cc in
+        let actors : t.line.actor ≢ s.line.actor = subst (λ (x : Standing). x.line.actor ≢ s.line.actor) same (apart-below busy n first lines s b a o (ap (λ (x : Standing). x.phase) same ∙ is_m) at_n is_n) in
+        λ e. actors (sym e)
+    go false false here there at_n at_m ih = ih at_n at_m
+
+-- the own replies of a turn go to its line
+own-line : (job n : ℕ) (owner : Owner) (next : Next) (asks : List Ask) (own : List Answered) → TakesTurn job (TurnOf n owner next) asks own → AllByRecursion (λ r. r.line ≡ n) own
+own-line job n owner next asks own takes = go next takes
+  where
+    by : (replied : List Answered) → own ≡ replied → AllByRecursion (λ r. r.line ≡ n) replied → AllByRecursion (λ r. r.line ≡ n) own
+    by replied is all = subst (AllByRecursion (λ r. r.line ≡ n)) (sym is) all
+
+    go : (next : Next) → TakesTurn job (TurnOf n owner next) asks own → AllByRecursion (λ r. r.line ≡ n) own
+    go (Asks called) (inl t) = by _ t.1 tt
+    go (Asks called) (inr t) = by _ t.1 (refl, tt)
+    go (Replies said) t = by _ t.1 (refl, tt)
+    go (Opens version) (inl t) = by _ t.1 (refl, tt)
+    go (Opens version) (inr t) = by _ t.1 (refl, tt)
+    go (Gives count) t = by _ t.2.1 (refl, tt)
+    go Waits t = by _ t.1 tt
+
+-- and so spare a line of another process
+own-spares : (lines : List Standing) (n m actor : ℕ) (s : Standing) → n ≢ m → line_at n lines ≡ Some s → s.line.actor ≢ actor → (own : List Answered) → AllByRecursion (λ r. r.line ≡ n) own → AllByRecursion (Spares lines m actor) own
+own-spares lines n m actor s apart stands other [] all = tt
+own-spares lines n m actor s apart stands other (r ∷ own) all = (
+  record {
+    apart = λ e. apart (sym all.0 ∙ e);
+    handles = λ before hs name. effect-other before lines actor r (λ t at_r e.
+        let same : Some t ≡ Some s = sym at_r ∙ ap (λ (k : ℕ). line_at k lines) all.0 ∙ stands in
+        let is : t ≡ s = cc in
+        other (ap (λ (x : Standing). x.line.actor) (sym is) ∙ e)) hs name;
+  },
+  own-spares lines n m actor s apart stands other own all.1,
+)
+
+-- the jobs behind a step
+
+-- an item of two lists
+data InEither {X : Type 0} (first second : Option X) (x : X) : Type 0 where
+  InFirst : first ≡ Some x → InEither first second x
+  InSecond : second ≡ Some x → InEither first second x
+
+found-either : (k : ℕ) (jobs more : List Job) (job : Job) → job_at k (jobs ++ more) ≡ Some job → InEither (job_at k jobs) (job_at k more) job
+found-either k [] more job is = InSecond is
+found-either k (first ∷ jobs) more job is = go (first.number == k) is (found-either k jobs more job)
+  where
+    go : (b : Bool) → cond b (Some first) (job_at k (jobs ++ more)) ≡ Some job → (job_at k (jobs ++ more) ≡ Some job → InEither (job_at k jobs) (job_at k more) job) → InEither (cond b (Some first) (job_at k jobs)) (job_at k more) job
+    go true is ih = InFirst is
+    go false is ih = ih is
+
+-- a job where one has changed its phase
+data Changed (k n : ℕ) (phase : JobPhase) (jobs : List Job) (job : Job) : Type 0 where
+  Same : k ≢ n → job_at k jobs ≡ Some job → Changed k n phase jobs job
+  Moved : (old : Job) → k ≡ n → job_at k jobs ≡ Some old → in_phase phase old ≡ job → Changed k n phase jobs job
+
+changed-found : (k n : ℕ) (phase : JobPhase) (jobs : List Job) (job : Job) → job_at k (change_job n phase jobs) ≡ Some job → Changed k n phase jobs job
+changed-found k n phase [] job is = absurd (cc)
+changed-found k n phase (first ∷ jobs) job is = go (first.number == n) (first.number == k) refl refl is (changed-found k n phase jobs job)
+  where
+    later : (first.number == k) ≡ false → Changed k n phase jobs job → Changed k n phase (first ∷ jobs) job
+    later other (Same apart stands) = Same apart (rw other stands)
+    later other (Moved old here stands moved) = Moved old here (rw other stands) moved
+
+    go : (c d : Bool) → (first.number == n) ≡ c → (first.number == k) ≡ d → job_at k (cond c (in_phase phase first) first ∷ change_job n phase jobs) ≡ Some job → (job_at k (change_job n phase jobs) ≡ Some job → Changed k n phase jobs job) → Changed k n phase (first ∷ jobs) job
+    go true true at_n at_k is ih =
+        let found : Some (in_phase phase first) ≡ Some job = sym (rw at_k refl) ∙ is in
+        Moved first (sym (eqb-true first.number k at_k) ∙ eqb-true first.number n at_n) (rw at_k refl) cc
+    go true false at_n at_k is ih = later at_k (ih (sym (rw at_k refl) ∙ is))
+    go false true at_n at_k is ih = Same (λ e. eqb-false first.number n at_n (eqb-true first.number k at_k ∙ e)) (rw at_k (sym (rw at_k refl) ∙ is))
+    go false false at_n at_k is ih = later at_k (ih (sym (rw at_k refl) ∙ is))
+
+-- a call is whole again where it is asked
+pub whole-is : (lines : List Standing) (n : ℕ) (called : Call) → Puts (content_of (line_at n lines)) called → whole_call lines n (asked_of called) ≡ called
+whole-is lines n (call.Head key) puts = refl
+whole-is lines n (call.Probe key) puts = refl
+whole-is lines n (call.Get key etag from to) puts = refl
+whole-is lines n (call.Delete key) puts = refl
+whole-is lines n (call.Put key bytes) puts = ap (call.Put key) (sym puts)
+
+-- a job makes the call that its line does next
+abbrev Makes : ClientState → Job → Type 0
+Makes state job = next_at state.handles job.line state.lines ≡ Asks job.call
+
+-- the turn of a line leaves the jobs of other lines
+old-makes : (state : ClientState) (step : Step) → IsAlive state → IsFaithful state → IsLegalStep state step → (opened : IsOpened state step.event) → (k : ℕ) (job : Job) → job_at k state.jobs ≡ Some job → job.phase ≢ Gone → opened.n ≢ job.line → Makes (after state step) job
+old-makes state step alive faithful legal opened k job stands live apart =
+    let due = owner-due state k job.line job alive stands refl live in
+    let lines : List Standing = lines_at state.lines state.jobs step.event in
+    let own_line : Standing = record { line = opened.line; phase = Begun opened.answers } in
+    let job_line : Standing = record { line = due.line; phase = Begun due.answers } in
+    let here : line_at job.line lines ≡ Some job_line = ap (line_at job.line) opened.lines_are ∙ line_at-other opened.n job.line opened.goes state.lines (λ e. apart (sym e)) ∙ due.stands in
+    let actors : opened.line.actor ≢ due.line.actor = orderly-apart [] opened.n job.line lines own_line job_line opened.answers due.answers apart opened.now.orderly opened.now.stands refl here refl in
+    let takes = subst (λ (t : Turn). TakesTurn (length state.jobs + 1) t step.asks legal.own) opened.turn legal.turn in
+    let to_own = own-line (length state.jobs + 1) opened.n opened.owner (next_of (handle_of opened.line state.handles) opened.line.request opened.answers) step.asks legal.own takes in
+    let spares = own-spares lines opened.n job.line due.line.actor own_line apart opened.now.stands actors legal.own to_own in
+    left-next state step job.line due.line due.answers alive legal here (await-none due.line.request due.wants) spares
+    ∙ sym (next_at-begun state.handles job.line due.line due.answers state.lines due.stands)
+    ∙ faithful.makes k job stands live
+
+-- and its own job makes the call that it asks
+single-found : (k : ℕ) (first job : Job) → job_at k (first ∷ []) ≡ Some job → first ≡ job
+single-found k first job is = go (first.number == k) is
+  where
+    go : (b : Bool) → cond b (Some first) None ≡ Some job → first ≡ job
+    go true is = cc
+    go false is = absurd (cc)
+
+new-makes : (state : ClientState) (step : Step) → IsAlive state → IsLegalStep state step → (opened : IsOpened state step.event) → (k : ℕ) (job : Job) → job_at k (map (job_of state.lines opened.n) step.asks) ≡ Some job → Makes (after state step) job
+new-makes state step alive legal opened k job stands = go (next_of (handle_of opened.line state.handles) opened.line.request opened.answers) refl (subst (λ (t : Turn). TakesTurn (length state.jobs + 1) t step.asks legal.own) opened.turn legal.turn)
+  where
+    n : ℕ
+    n = opened.n
+
+    none : step.asks ≡ [] → Makes (after state step) job
+    none no_asks = let nowhere : job_at k [] ≡ Some job = ap (λ (x : List Ask). job_at k (map (job_of state.lines n) x)) (sym no_asks) ∙ stands in absurd (cc)
+
+    asks : (called : Call) → next_of (handle_of opened.line state.handles) opened.line.request opened.answers ≡ Asks called → step.asks ≡ record { job = length state.jobs + 1; owner = opened.owner; call = asked_of called } ∷ [] → legal.own ≡ [] → Makes (after state step) job
+    asks called is asked no_own =
+        let lines : List Standing = lines_at state.lines state.jobs step.event in
+        let new : Job = job_of state.lines n (record { job = length state.jobs + 1; owner = opened.owner; call = asked_of called }) in
+        let same : new ≡ job = single-found k new job (ap (λ (x : List Ask). job_at k (map (job_of state.lines n) x)) (sym asked) ∙ stands) in
+        let spares = subst (AllByRecursion (Spares lines n opened.line.actor)) (sym no_own) tt in
+        let one = asks-one (handle_of opened.line state.handles) opened.line.request opened.answers called is in
+        let puts = asks-puts (handle_of opened.line state.handles) opened.line.request opened.answers called is in
+        let content : content_of (line_at n state.lines) ≡ content_in opened.line.request = ap content_of opened.found in
+        let whole = whole-is state.lines n called (subst (λ (x : List ℕ). Puts x called) (sym content) puts) in
+        subst (Makes (after state step)) same
+        (left-next state step n opened.line opened.answers alive legal opened.now.stands (await-none opened.line.request one) spares ∙ is ∙ ap Asks (sym whole))
+
+    go : (next : Next) → next_of (handle_of opened.line state.handles) opened.line.request opened.answers ≡ next → TakesTurn (length state.jobs + 1) (TurnOf n opened.owner next) step.asks legal.own → Makes (after state step) job
+    go (Asks called) is (inl t) = asks called is t.0 t.1
+    go (Asks called) is (inr t) = none t.0
+    go (Replies said) is t = none t.0
+    go (Opens version) is (inl t) = none t.0
+    go (Opens version) is (inr t) = none t.0
+    go (Gives count) is t = none t.2.0
+    go Waits is t = none t.0
+
+-- the jobs that are ready or out behind a turn's event were so before, and are of other lines
+record Others (state : ClientState) (event : Event) (n : ℕ) : Type 0 where
+  stood : (k : ℕ) (job : Job) → job_at k (jobs_at state.jobs event) ≡ Some job → job.phase ≢ Gone → job_at k state.jobs ≡ Some job
+  apart : (k : ℕ) (job : Job) → job_at k (jobs_at state.jobs event) ≡ Some job → job.phase ≢ Gone → n ≢ job.line
+
+turn-faithful : (state : ClientState) (step : Step) → IsAlive state → IsFaithful state → IsLegalStep state step → (opened : IsOpened state step.event) → Others state step.event opened.n → IsFaithful (after state step)
+turn-faithful state step alive faithful legal opened others = record { makes = λ k job stands live. go k job live (found-either k (jobs_at state.jobs step.event) (jobs_asked state.lines (line_of state.jobs step.event) step.asks) job stands) }
+  where
+    go : (k : ℕ) (job : Job) → job.phase ≢ Gone → InEither (job_at k (jobs_at state.jobs step.event)) (job_at k (jobs_asked state.lines (line_of state.jobs step.event) step.asks)) job → Makes (after state step) job
+    go k job live (InFirst stands) = old-makes state step alive faithful legal opened k job (others.stood k job stands live) live (others.apart k job stands live)
+    go k job live (InSecond stands) = new-makes state step alive legal opened k job (ap (job_at k) (sym (asked-own state step.event opened step.asks)) ∙ stands)
+
+-- the line that begins has no job yet
+begin-others : (state : ClientState) (n time m : ℕ) → IsAlive state → is_among n (startable state.lines) ≡ true → Some n ≡ Some m → Others state (Begin n time) m
+begin-others state n time m alive may of_line =
+    let found = startable-found 0 n [] state.lines (Rises-lines 0 state.lines alive.rising) may in
+    record {
+      stood = λ k job stands live. stands;
+      apart = λ k job stands live e.
+          let due = owner-due state k job.line job alive stands refl live in
+          let same : n ≡ m = cc in
+          let here : line_at n state.lines ≡ line_at job.line state.lines = ap (λ (x : ℕ). line_at x state.lines) (same ∙ e) in
+          let clash : Some (record { line = found.line; phase = Waiting }) ≡ Some (record { line = due.line; phase = Begun due.answers }) = sym found.stands ∙ here ∙ due.stands in
+          let both : record { line = found.line; phase = Waiting } ≡ record { line = due.line; phase = Begun due.answers } = cc in
+          let phases : Waiting ≡ Begun due.answers = ap (λ (s : Standing). s.phase) both in
+          absurd (cc);
+    }
+
+-- and the line whose job has its answer has no other job
+done-others : (state : ClientState) (number position : ℕ) (answer : Brief) (m : ℕ) → IsAlive state → (may : MayDone state number position answer) → Some may.job.line ≡ Some m → Others state (Done number position answer) m
+done-others state number position answer m alive may of_line = record { stood = λ k job stands live. (stood k job stands live).1; apart = λ k job stands live e. same_job k job stands live e }
+  where
+    stood : (k : ℕ) (job : Job) → job_at k (change_job number Gone state.jobs) ≡ Some job → job.phase ≢ Gone → (k ≢ number) × (job_at k state.jobs ≡ Some job)
+    stood k job stands live = go (changed-found k number Gone state.jobs job stands)
+      where
+        go : Changed k number Gone state.jobs job → (k ≢ number) × (job_at k state.jobs ≡ Some job)
+        go (Same apart here) = (apart, here)
+        go (Moved old here at moved) = absurd (live (sym (ap (λ (j : Job). j.phase) moved)))
+
+    same_job : (k : ℕ) (job : Job) → job_at k (change_job number Gone state.jobs) ≡ Some job → job.phase ≢ Gone → m ≡ job.line → ⊥
+    same_job k job stands live e =
+        let here = stood k job stands live in
+        let out : may.job.phase ≡ Out may.from = may.is_out in
+        let line_is : may.job.line ≡ m = cc in
+        here.0 (one_job state k number m job may.job alive here.1 may.stands live (λ gone. absurd (cc)) (sym e) line_is)
+
+take-faithful : (state : ClientState) (number time from : ℕ) (drops : List ℕ) (asks : List Ask) (replies : List Answered) → IsAlive state → IsFaithful state → IsLegalStep state (record { event = Take number time from; drops = drops; asks = asks; replies = replies }) → IsFaithful (after state (record { event = Take number time from; drops = drops; asks = asks; replies = replies }))
+take-faithful state number time from drops asks replies alive faithful legal = record { makes = λ k job stands live. go k job live (found-either k (change_job number (Out from) state.jobs) [] job stands) }
+  where
+    step : Step
+    step = record { event = Take number time from; drops = drops; asks = asks; replies = replies }
+
+    kept : (k : ℕ) (job : Job) → job_at k state.jobs ≡ Some job → job.phase ≢ Gone → Makes (after state step) job
+    kept k job stands live =
+        let due = owner-due state k job.line job alive stands refl live in
+        let spares = subst (AllByRecursion (Spares state.lines job.line due.line.actor)) (sym legal.turn.1) tt in
+        left-next state step job.line due.line due.answers alive legal due.stands (await-none due.line.request due.wants) spares
+        ∙ sym (next_at-begun state.handles job.line due.line due.answers state.lines due.stands)
+        ∙ faithful.makes k job stands live
+
+    moved : (k : ℕ) (job : Job) → job.phase ≢ Gone → Changed k number (Out from) state.jobs job → Makes (after state step) job
+    moved k job live (Same apart stands) = kept k job stands live
+    moved k job live (Moved old here stands is) =
+        let found = ready-found 0 number state.jobs (Rises-jobs 0 state.jobs alive.numbered) legal.may_come.1 in
+        let both : Some old ≡ Some found.job = sym stands ∙ ap (λ (x : ℕ). job_at x state.jobs) here ∙ found.stands in
+        let same : old ≡ found.job = cc in
+        let ready_is : old.phase ≡ Ready = ap (λ (j : Job). j.phase) same ∙ found.phase in
+        subst (Makes (after state step)) is (kept k old stands (λ gone. absurd (cc)))
+
+    go : (k : ℕ) (job : Job) → job.phase ≢ Gone → InEither (job_at k (change_job number (Out from) state.jobs)) (job_at k []) job → Makes (after state step) job
+    go k job live (InFirst stands) = moved k job live (changed-found k number (Out from) state.jobs job stands)
+    go k job live (InSecond stands) = absurd (cc)
+
+event-faithful : (state : ClientState) (event : Event) (drops : List ℕ) (asks : List Ask) (replies : List Answered) → IsAlive state → IsFaithful state → IsLegalStep state (record { event = event; drops = drops; asks = asks; replies = replies }) → IsFaithful (after state (record { event = event; drops = drops; asks = asks; replies = replies }))
+event-faithful state (Begin n time) drops asks replies alive faithful legal =
+    let opened = begin-opens state n time alive legal.may_come.1 in
+    turn-faithful state (record { event = Begin n time; drops = drops; asks = asks; replies = replies }) alive faithful legal opened (begin-others state n time opened.n alive legal.may_come.1 opened.of_line)
+event-faithful state (Take number time from) drops asks replies alive faithful legal = take-faithful state number time from drops asks replies alive faithful legal
+event-faithful state (Done number position answer) drops asks replies alive faithful legal =
+    let opened = done-opens state number position answer alive legal.may_come in
+    turn-faithful state (record { event = Done number position answer; drops = drops; asks = asks; replies = replies }) alive faithful legal opened (done-others state number position answer opened.n alive legal.may_come (sym (line-is (job_at number state.jobs) legal.may_come.job legal.may_come.stands) ∙ opened.of_line))
+
+-- a legal step leaves a faithful state faithful
+pub faithful-step : (state : ClientState) (step : Step) → IsAlive state → IsFaithful state → IsLegalStep state step → IsFaithful (after state step)
+faithful-step state step alive faithful legal = event-faithful state step.event step.drops step.asks step.replies alive faithful legal
+
+pub faithful-steps : (state : ClientState) (steps : List Step) → IsAlive state → IsFaithful state → Along IsLegalStep after state steps → IsFaithful (fold after state steps)
+faithful-steps state [] alive faithful run = faithful
+faithful-steps state (step ∷ steps) alive faithful run = faithful-steps (after state step) steps (alive-step state step alive run.0) (faithful-step state step alive faithful run.0) run.1
+
+pub opening-faithful : (script : List Line) → IsFaithful (opening script)
+opening-faithful script = record { makes = λ number job stands live. absurd (cc) }
+
+pub faithful : (script : List Line) (steps : List Step) → AreRising 0 script → IsRunSoFar script steps → IsFaithful (state_after script steps)
+faithful script steps rising run = faithful-steps (opening script) steps (opening-alive script rising) (opening-faithful script) run
+
+pub job_makes_call : (script : List Line) (steps : List Step) (number : ℕ) (job : Job) → AreRising 0 script → IsRunSoFar script steps → job_at number (state_after script steps).jobs ≡ Some job → job.phase ≢ Gone → next_at (state_after script steps).handles job.line (state_after script steps).lines ≡ Asks job.call
+job_makes_call script steps number job rising run stands live = (faithful script steps rising run).makes number job stands live
+
+-- and each call that a job makes may be made
+
+phase-made : (handles : List Opened) (line : Line) (phase : Phase) (called : Call) → next_in handles (record { line = line; phase = phase }) ≡ Asks called → MayBeMade called
+phase-made handles line Waiting called is = absurd (cc)
+phase-made handles line (Begun answers) called is = asks_made (handle_of line handles) line.request answers called is
+phase-made handles line Replied called is = absurd (cc)
+
+pub next-made : (handles : List Opened) (n : ℕ) (lines : List Standing) (called : Call) → next_at handles n lines ≡ Asks called → MayBeMade called
+next-made handles n lines called is = go (line_at n lines) refl
+  where
+    go : (o : Option Standing) → line_at n lines ≡ o → MayBeMade called
+    go None at = let waits : next_at handles n lines ≡ Waits = rw at refl in absurd (cc)
+    go (Some s) at = let here : next_at handles n lines ≡ next_in handles s = rw at refl in phase-made handles s.line s.phase called (sym here ∙ is)
+
+-- all jobs so far, those that are gone too
+abbrev AllMade : ClientState → Type 0
+AllMade state = (number : ℕ) (job : Job) → job_at number state.jobs ≡ Some job → MayBeMade job.call
+
+-- no event changes a job's call
+record Stood (k : ℕ) (jobs : List Job) (job : Job) : Type 0 where
+  old : Job
+  stands : job_at k jobs ≡ Some old
+  same : old.call ≡ job.call
+
+stood-change : (k n : ℕ) (phase : JobPhase) (jobs : List Job) (job : Job) → job_at k (change_job n phase jobs) ≡ Some job → Stood k jobs job
+stood-change k n phase jobs job is = go (changed-found k n phase jobs job is)
+  where
+    go : Changed k n phase jobs job → Stood k jobs job
+    go (Same apart stands) = record { old = job; stands = stands; same = refl }
+    go (Moved old here stands moved) = record { old = old; stands = stands; same = ap (λ (j : Job). j.call) moved }
+
+stood-event : (k : ℕ) (jobs : List Job) (event : Event) (job : Job) → job_at k (jobs_at jobs event) ≡ Some job → Stood k jobs job
+stood-event k jobs (Begin line time) job is = record { old = job; stands = is; same = refl }
+stood-event k jobs (Take number time from) job is = stood-change k number (Out from) jobs job is
+stood-event k jobs (Done number position answer) job is = stood-change k number Gone jobs job is
+
+asked-ready : (k n : ℕ) (lines : List Standing) (asks : List Ask) (job : Job) → job_at k (map (job_of lines n) asks) ≡ Some job → job.phase ≡ Ready
+asked-ready k n lines [] job is = absurd (cc)
+asked-ready k n lines (ask ∷ asks) job is = go ((job_of lines n ask).number == k) is (asked-ready k n lines asks job)
+  where
+    go : (b : Bool) → cond b (Some (job_of lines n ask)) (job_at k (map (job_of lines n) asks)) ≡ Some job → (job_at k (map (job_of lines n) asks) ≡ Some job → job.phase ≡ Ready) → job.phase ≡ Ready
+    go true is ih = let same : job_of lines n ask ≡ job = cc in ap (λ (j : Job). j.phase) (sym same)
+    go false is ih = ih is
+
+all-ready : (k : ℕ) (o : Option ℕ) (lines : List Standing) (asks : List Ask) (job : Job) → job_at k (jobs_asked lines o asks) ≡ Some job → job.phase ≡ Ready
+all-ready k None lines asks job is = absurd (cc)
+all-ready k (Some n) lines asks job is = asked-ready k n lines asks job is
+
+made-step : (state : ClientState) (step : Step) → IsAlive state → IsFaithful state → AllMade state → IsLegalStep state step → AllMade (after state step)
+made-step state step alive faithful made legal k job stands = go (found-either k (jobs_at state.jobs step.event) (jobs_asked state.lines (line_of state.jobs step.event) step.asks) job stands)
+  where
+    go : InEither (job_at k (jobs_at state.jobs step.event)) (job_at k (jobs_asked state.lines (line_of state.jobs step.event) step.asks)) job → MayBeMade job.call
+    go (InFirst is) = let old = stood-event k state.jobs step.event job is in subst MayBeMade old.same (made k old.old old.stands)
+    go (InSecond is) =
+        let ready_is = all-ready k (line_of state.jobs step.event) state.lines step.asks job is in
+        let behind = faithful-step state step alive faithful legal in
+        next-made (after state step).handles job.line (after state step).lines job.call (behind.makes k job stands (λ gone. absurd (cc)))
+
+made-steps : (state : ClientState) (steps : List Step) → IsAlive state → IsFaithful state → AllMade state → Along IsLegalStep after state steps → AllMade (fold after state steps)
+made-steps state [] alive faithful made run = made
+made-steps state (step ∷ steps) alive faithful made run = made-steps (after state step) steps (alive-step state step alive run.0) (faithful-step state step alive faithful run.0) (made-step state step alive faithful made run.0) run.1
+
+pub calls_made : (script : List Line) (steps : List Step) (number : ℕ) (job : Job) → AreRising 0 script → IsRunSoFar script steps → job_at number (state_after script steps).jobs ≡ Some job → MayBeMade job.call
+calls_made script steps number job rising run stands = made-steps (opening script) steps (opening-alive script rising) (opening-faithful script) (λ k new is. absurd (cc)) run number job stands

@@ -1,0 +1,249 @@
+-- The bytes that a read gives are those of the version that its handle opened.
+use Rattle.std.proofs.Common.{◌≡◌, ℕ, ◌+◌, List, [], ◌∷◌, ◌++◌, length, Option, Some, None, inl, inr, refl, sym, ap, ◌∙◌, subst}
+use Rattle.std.specs.List.{AllByRecursion}
+use Rattle.bucket_model.specs.declared.call.Call.{Call}
+use Rattle.bucket_model.specs.declared.call.Call.TheVariants as call
+use Rattle.bucket_model.specs.declared.answer.Answer.{Answer}
+use Rattle.bucket_model.specs.declared.answer.Answer.TheVariants as answer
+use Rattle.bucket_model.specs.declared.answer.Brief.{Brief}
+use Rattle.bucket_model.specs.declared.answer.Brief.TheVariants.{Found, Missing, Yes, No, Bytes, Changed, Gone, Made, Fault, NoMemory}
+use Rattle.bucket_model.specs.Answers.{brief_of, bytes_in}
+use Rattle.bucket_model.specs.Bucket.{ObjectVersion, IsSlice}
+use Rattle.mount_model.specs.declared.handle.Handle.{Handle}
+use Rattle.mount_model.specs.declared.handle.Version.{Version}
+use Rattle.mount_model.specs.declared.request.Request.{Request}
+use Rattle.mount_model.specs.declared.request.Request.TheVariants.{Put, Await, Stat, OpenRead, Read, Close, Delete}
+use Rattle.mount_model.specs.declared.request.Reply.{Reply}
+use Rattle.mount_model.specs.declared.request.Reply.TheVariants as reply
+use Rattle.mount_model.specs.declared.request.Line.{Line}
+use Rattle.mount_model.specs.declared.event.Event.{Event}
+use Rattle.mount_model.specs.declared.event.Event.TheVariants.{Begin, Take, Done}
+use Rattle.mount_model.specs.declared.event.Ask.{Ask}
+use Rattle.mount_model.specs.declared.event.Answered.{Answered}
+use Rattle.mount_model.specs.declared.standing.Phase.TheVariants.{Waiting, Begun}
+use Rattle.mount_model.specs.declared.standing.Standing.{Standing}
+use Rattle.mount_model.specs.Step.{Step}
+use Rattle.mount_model.specs.Conversation.{Next, Asks, Replies, Opens, Gives, Waits, Range, range_in, range_next, read_next, next_of}
+use Rattle.mount_model.specs.Handles.{handle_of}
+use Rattle.mount_model.specs.State.{ClientState, Job, Out, line_at, job_at, change_line, heard, hears, lines_at, with_replies, state_after}
+use Rattle.mount_model.specs.Run.{AreRising, TakesTurn, Turn, TurnOf, due_awaits, IsLegalStep, IsRunSoFar}
+use Rattle.mount_model.specs.Reads.{IsRangeOf, IsReadOf, IsDataFor, IsReadReply, GivesOnly}
+use Rattle.run_laws.specs.Alive.{IsAlive}
+use Rattle.run_laws.specs.Faithful.{IsFaithful}
+use Rattle.run_laws.proofs.Lines.{Rises-lines, line_at-same}
+use Rattle.run_laws.proofs.Orderly.{startable-found}
+use Rattle.run_laws.proofs.Conversation.{IsRead, IsPlain, gives-read, replies-plain}
+use Rattle.run_laws.proofs.Alive.{IsOpened, hears-is, line-is, next_at-begun, begin-opens, done-opens, owner-due, alive}
+use Rattle.run_laws.proofs.Spared.{all-more, all-append, IsAwaited, due-here}
+use Rattle.run_laws.proofs.Faithful.{faithful}
+
+-- what a read gives behind the answer to its call
+
+range-slice : (versions : List ObjectVersion) (version : Version) (o : Option Range) (before : List Brief) (called : Call) (said : Answer) (count : ℕ) → range_next version o before ≡ Asks called → range_next version o (before ++ brief_of said ∷ []) ≡ Gives count → IsSlice versions called said → IsRangeOf versions version o (bytes_in said)
+range-slice versions version None before called said count asks gives slice = absurd (cc)
+range-slice versions version (Some range) [] called (answer.Bytes bytes) count asks gives slice =
+    let is : called ≡ call.Get version.key version.etag range.from range.to = cc in
+    subst (λ (c : Call). IsSlice versions c (answer.Bytes bytes)) is slice
+range-slice versions version (Some range) [] called (answer.Found etag size) count asks gives slice = absurd (cc)
+range-slice versions version (Some range) [] called answer.Missing count asks gives slice = absurd (cc)
+range-slice versions version (Some range) [] called answer.Yes count asks gives slice = absurd (cc)
+range-slice versions version (Some range) [] called answer.No count asks gives slice = absurd (cc)
+range-slice versions version (Some range) [] called answer.Changed count asks gives slice = absurd (cc)
+range-slice versions version (Some range) [] called answer.Gone count asks gives slice = absurd (cc)
+range-slice versions version (Some range) [] called (answer.Made etag) count asks gives slice = absurd (cc)
+range-slice versions version (Some range) [] called answer.Fault count asks gives slice = absurd (cc)
+range-slice versions version (Some range) [] called answer.NoMemory count asks gives slice = absurd (cc)
+range-slice versions version (Some range) (Found etag size ∷ before) called said count asks gives slice = absurd (cc)
+range-slice versions version (Some range) (Missing ∷ before) called said count asks gives slice = absurd (cc)
+range-slice versions version (Some range) (Yes ∷ before) called said count asks gives slice = absurd (cc)
+range-slice versions version (Some range) (No ∷ before) called said count asks gives slice = absurd (cc)
+range-slice versions version (Some range) (Bytes some ∷ before) called said count asks gives slice = absurd (cc)
+range-slice versions version (Some range) (Changed ∷ before) called said count asks gives slice = absurd (cc)
+range-slice versions version (Some range) (Gone ∷ before) called said count asks gives slice = absurd (cc)
+range-slice versions version (Some range) (Made etag ∷ before) called said count asks gives slice = absurd (cc)
+range-slice versions version (Some range) (Fault ∷ before) called said count asks gives slice = absurd (cc)
+range-slice versions version (Some range) (NoMemory ∷ before) called said count asks gives slice = absurd (cc)
+
+read-slice : (versions : List ObjectVersion) (handle : Option Handle) (offset asked : ℕ) (before : List Brief) (called : Call) (said : Answer) (count : ℕ) → read_next handle offset asked before ≡ Asks called → read_next handle offset asked (before ++ brief_of said ∷ []) ≡ Gives count → IsSlice versions called said → IsReadOf versions handle offset asked (bytes_in said)
+read-slice versions None offset asked before called said count asks gives slice = absurd (cc)
+read-slice versions (Some handle) offset asked before called said count asks gives slice = range-slice versions handle.version (range_in offset asked handle.version.size) before called said count asks gives slice
+
+request-slice : (versions : List ObjectVersion) (handle : Option Handle) (request : Request) (before : List Brief) (called : Call) (said : Answer) (count : ℕ) → IsRead request → next_of handle request before ≡ Asks called → next_of handle request (before ++ brief_of said ∷ []) ≡ Gives count → IsSlice versions called said → IsDataFor versions request handle (bytes_in said)
+request-slice versions handle (Read name offset asked) before called said count read asks gives slice = read-slice versions handle offset asked before called said count asks gives slice
+request-slice versions handle (Put key content) before called said count read asks gives slice = absurd read
+request-slice versions handle Await before called said count read asks gives slice = absurd read
+request-slice versions handle (Stat path) before called said count read asks gives slice = absurd read
+request-slice versions handle (OpenRead name path) before called said count read asks gives slice = absurd read
+request-slice versions handle (Close name) before called said count read asks gives slice = absurd read
+request-slice versions handle (Delete key) before called said count read asks gives slice = absurd read
+
+-- a read that asks for nothing gives nothing
+
+range-nothing : (versions : List ObjectVersion) (version : Version) (o : Option Range) (count : ℕ) → range_next version o [] ≡ Gives count → IsRangeOf versions version o []
+range-nothing versions version None count gives = refl
+range-nothing versions version (Some range) count gives = absurd (cc)
+
+read-nothing : (versions : List ObjectVersion) (handle : Option Handle) (offset asked : ℕ) (count : ℕ) → read_next handle offset asked [] ≡ Gives count → IsReadOf versions handle offset asked []
+read-nothing versions None offset asked count gives = absurd (cc)
+read-nothing versions (Some handle) offset asked count gives = range-nothing versions handle.version (range_in offset asked handle.version.size) count gives
+
+request-nothing : (versions : List ObjectVersion) (handle : Option Handle) (request : Request) (count : ℕ) → IsRead request → next_of handle request [] ≡ Gives count → IsDataFor versions request handle []
+request-nothing versions handle (Read name offset asked) count read gives = read-nothing versions handle offset asked count gives
+request-nothing versions handle (Put key content) count read gives = absurd read
+request-nothing versions handle Await count read gives = absurd read
+request-nothing versions handle (Stat path) count read gives = absurd read
+request-nothing versions handle (OpenRead name path) count read gives = absurd read
+request-nothing versions handle (Close name) count read gives = absurd read
+request-nothing versions handle (Delete key) count read gives = absurd read
+
+-- the replies of a step
+
+-- a reply without data
+plain-reply : (versions : List ObjectVersion) (now : ClientState) (line : ℕ) (said : Reply) → IsPlain said → IsReadReply versions now (record { line = line; reply = said })
+plain-reply versions now line (reply.Data bytes) plain = absurd plain
+plain-reply versions now line (reply.Made etag) plain = tt
+plain-reply versions now line reply.Success plain = tt
+plain-reply versions now line reply.Directory plain = tt
+plain-reply versions now line (reply.File size) plain = tt
+plain-reply versions now line (reply.Open size) plain = tt
+plain-reply versions now line reply.Gone plain = tt
+plain-reply versions now line (reply.Failed errno) plain = tt
+
+awaited-reply : (versions : List ObjectVersion) (now : ClientState) (lines : List Standing) (r : Answered) → IsAwaited lines r → IsReadReply versions now r
+awaited-reply versions now lines r is = rw is.said tt
+
+all-front : {X : Type 0} (P : X → Type 0) (xs ys : List X) → AllByRecursion P (xs ++ ys) → AllByRecursion P xs
+all-front P [] ys all = tt
+all-front P (x ∷ xs) ys all = (all.0, all-front P xs ys all.1)
+
+-- the awaits' replies have no data, so that the own ones decide
+own-decide : (versions : List ObjectVersion) (now : ClientState) (step : Step) → IsAlive now → (legal : IsLegalStep now step) → AllByRecursion (IsReadReply versions now) legal.own → AllByRecursion (IsReadReply versions now) step.replies
+own-decide versions now step alive legal own =
+    let lines : List Standing = lines_at now.lines now.jobs step.event in
+    let dues : List Answered = due_awaits (with_replies lines legal.own) in
+    subst (AllByRecursion (IsReadReply versions now)) (sym legal.replies)
+    (all-append (IsReadReply versions now) legal.own dues own (all-more (IsAwaited lines) (IsReadReply versions now) (awaited-reply versions now lines) dues (due-here now step alive legal)))
+
+-- where the line whose turn it is may give these bytes alone
+turn-reads : (versions : List ObjectVersion) (now : ClientState) (step : Step) (wanted : List ℕ) → IsAlive now → IsLegalStep now step → (opened : IsOpened now step.event) → ((count : ℕ) → next_of (handle_of opened.line now.handles) opened.line.request opened.answers ≡ Gives count → IsDataFor versions opened.line.request (handle_of opened.line now.handles) wanted) → AllByRecursion (GivesOnly wanted) step.replies → AllByRecursion (IsReadReply versions now) step.replies
+turn-reads versions now step wanted alive legal opened gives only = own-decide versions now step alive legal (go next refl (subst (λ (t : Turn). TakesTurn (length now.jobs + 1) t step.asks legal.own) opened.turn legal.turn))
+  where
+    n : ℕ
+    n = opened.n
+
+    next : Next
+    next = next_of (handle_of opened.line now.handles) opened.line.request opened.answers
+
+    own_only : AllByRecursion (GivesOnly wanted) legal.own
+    own_only = all-front (GivesOnly wanted) legal.own (due_awaits (with_replies (lines_at now.lines now.jobs step.event) legal.own)) (subst (AllByRecursion (GivesOnly wanted)) legal.replies only)
+
+    by : (replied : List Answered) → legal.own ≡ replied → AllByRecursion (IsReadReply versions now) replied → AllByRecursion (IsReadReply versions now) legal.own
+    by replied is all = subst (AllByRecursion (IsReadReply versions now)) (sym is) all
+
+    data_reply : (count : ℕ) (bytes : List ℕ) → next ≡ Gives count → legal.own ≡ record { line = n; reply = reply.Data bytes } ∷ [] → IsReadReply versions now (record { line = n; reply = reply.Data bytes })
+    data_reply count bytes is own =
+        let given = subst (AllByRecursion (GivesOnly wanted)) own own_only in
+        let same : bytes ≡ wanted = given.0 in
+        let found : line_at n now.lines ≡ Some (record { line = opened.line; phase = opened.old }) = opened.found in
+        rw (found, same) (gives count is)
+
+    go : (now_next : Next) → next ≡ now_next → TakesTurn (length now.jobs + 1) (TurnOf n opened.owner now_next) step.asks legal.own → AllByRecursion (IsReadReply versions now) legal.own
+    go (Asks called) is (inl t) = by _ t.1 tt
+    go (Asks called) is (inr t) = by _ t.1 (tt, tt)
+    go (Replies said) is t = by _ t.1 (plain-reply versions now n said (replies-plain (handle_of opened.line now.handles) opened.line.request opened.answers said is), tt)
+    go (Opens version) is (inl t) = by _ t.1 (tt, tt)
+    go (Opens version) is (inr t) = by _ t.1 (tt, tt)
+    go (Gives count) is t = by _ t.2.1 (data_reply count t.0 is t.2.1, tt)
+    go Waits is t = by _ t.1 tt
+
+-- how the line whose turn it is stands
+record StandsSo (line other : Line) (answers heard_now : List Brief) : Type 0 where
+  same_line : line ≡ other
+  same_answers : answers ≡ heard_now
+
+stands-so : (line other : Line) (answers heard_now : List Brief) (o : Option Standing) → o ≡ Some (record { line = line; phase = Begun answers }) → o ≡ Some (record { line = other; phase = Begun heard_now }) → StandsSo line other answers heard_now
+stands-so line other answers heard_now o first second =
+    let one : Standing = record { line = line; phase = Begun answers } in
+    let two : Standing = record { line = other; phase = Begun heard_now } in
+    let both : Some one ≡ Some two = sym first ∙ second in
+    let same : one ≡ two = cc in
+    let phases : one.phase ≡ two.phase = ap (λ (s : Standing). s.phase) same in
+    record { same_line = ap (λ (s : Standing). s.line) same; same_answers = cc }
+
+-- each kind of step
+
+done-at : (versions : List ObjectVersion) (now : ClientState) (number position : ℕ) (said : Answer) (job : Job) (drops : List ℕ) (asks : List Ask) (replies : List Answered) → IsAlive now → IsFaithful now → IsLegalStep now (record { event = Done number position (brief_of said); drops = drops; asks = asks; replies = replies }) → job_at number now.jobs ≡ Some job → IsSlice versions job.call said → AllByRecursion (GivesOnly (bytes_in said)) replies → AllByRecursion (IsReadReply versions now) replies
+done-at versions now number position said job drops asks replies alive faithful legal stands slice only = turn-reads versions now step (bytes_in said) alive legal opened gives only
+  where
+    step : Step
+    step = record { event = Done number position (brief_of said); drops = drops; asks = asks; replies = replies }
+
+    opened : IsOpened now (Done number position (brief_of said))
+    opened = done-opens now number position (brief_of said) alive legal.may_come
+
+    gives : (count : ℕ) → next_of (handle_of opened.line now.handles) opened.line.request opened.answers ≡ Gives count → IsDataFor versions opened.line.request (handle_of opened.line now.handles) (bytes_in said)
+    gives count is =
+        let may = legal.may_come in
+        let both : Some may.job ≡ Some job = sym may.stands ∙ stands in
+        let same_job : may.job ≡ job = cc in
+        let out : may.job.phase ≡ Out may.from = may.is_out in
+        let due = owner-due now number may.job.line may.job alive may.stands refl (λ gone. absurd (cc)) in
+        let numbers : Some may.job.line ≡ Some opened.n = sym (line-is (job_at number now.jobs) may.job may.stands) ∙ opened.of_line in
+        let number_is : may.job.line ≡ opened.n = cc in
+        let lines : List Standing = hears (job_at number now.jobs) (brief_of said) now.lines in
+        let here : line_at may.job.line lines ≡ Some (record { line = due.line; phase = Begun (due.answers ++ brief_of said ∷ []) }) =
+        ap (line_at may.job.line) (hears-is (job_at number now.jobs) may.job (brief_of said) now.lines may.stands) ∙ line_at-same may.job.line (heard (brief_of said)) now.lines (record { line = due.line; phase = Begun due.answers }) due.stands in
+        let so = stands-so opened.line due.line opened.answers (due.answers ++ brief_of said ∷ []) (line_at opened.n lines) opened.now.stands (ap (λ (k : ℕ). line_at k lines) (sym number_is) ∙ here) in
+        let makes : next_of (handle_of due.line now.handles) due.line.request due.answers ≡ Asks may.job.call = sym (next_at-begun now.handles may.job.line due.line due.answers now.lines due.stands) ∙ faithful.makes number may.job may.stands (λ gone. absurd (cc)) in
+        let asked : next_of (handle_of opened.line now.handles) opened.line.request due.answers ≡ Asks job.call = ap (λ (l : Line). next_of (handle_of l now.handles) l.request due.answers) so.same_line ∙ makes ∙ ap (λ (j : Job). Asks j.call) same_job in
+        let given : next_of (handle_of opened.line now.handles) opened.line.request (due.answers ++ brief_of said ∷ []) ≡ Gives count = ap (next_of (handle_of opened.line now.handles) opened.line.request) (sym so.same_answers) ∙ is in
+        request-slice versions (handle_of opened.line now.handles) opened.line.request due.answers job.call said count (gives-read (handle_of opened.line now.handles) opened.line.request opened.answers count is) asked given slice
+
+begun-at : (versions : List ObjectVersion) (now : ClientState) (line time : ℕ) (drops : List ℕ) (asks : List Ask) (replies : List Answered) → IsAlive now → IsLegalStep now (record { event = Begin line time; drops = drops; asks = asks; replies = replies }) → AllByRecursion (GivesOnly []) replies → AllByRecursion (IsReadReply versions now) replies
+begun-at versions now line time drops asks replies alive legal only = turn-reads versions now step [] alive legal opened gives only
+  where
+    step : Step
+    step = record { event = Begin line time; drops = drops; asks = asks; replies = replies }
+
+    opened : IsOpened now (Begin line time)
+    opened = begin-opens now line time alive legal.may_come.1
+
+    gives : (count : ℕ) → next_of (handle_of opened.line now.handles) opened.line.request opened.answers ≡ Gives count → IsDataFor versions opened.line.request (handle_of opened.line now.handles) []
+    gives count is =
+        let found = startable-found 0 line [] now.lines (Rises-lines 0 now.lines alive.rising) legal.may_come.1 in
+        let numbers : Some line ≡ Some opened.n = opened.of_line in
+        let number_is : line ≡ opened.n = cc in
+        let lines : List Standing = change_line line (λ phase. Begun []) now.lines in
+        let here : line_at line lines ≡ Some (record { line = found.line; phase = Begun [] }) = line_at-same line (λ phase. Begun []) now.lines (record { line = found.line; phase = Waiting }) found.stands in
+        let so = stands-so opened.line found.line opened.answers [] (line_at opened.n lines) opened.now.stands (ap (λ (k : ℕ). line_at k lines) (sym number_is) ∙ here) in
+        let given : next_of (handle_of opened.line now.handles) opened.line.request [] ≡ Gives count = ap (next_of (handle_of opened.line now.handles) opened.line.request) (sym so.same_answers) ∙ is in
+        request-nothing versions (handle_of opened.line now.handles) opened.line.request count (gives-read (handle_of opened.line now.handles) opened.line.request opened.answers count is) given
+
+taken-at : (versions : List ObjectVersion) (now : ClientState) (number time from : ℕ) (drops : List ℕ) (asks : List Ask) (replies : List Answered) → IsAlive now → IsLegalStep now (record { event = Take number time from; drops = drops; asks = asks; replies = replies }) → AllByRecursion (IsReadReply versions now) replies
+taken-at versions now number time from drops asks replies alive legal = own-decide versions now (record { event = Take number time from; drops = drops; asks = asks; replies = replies }) alive legal (subst (AllByRecursion (IsReadReply versions now)) (sym legal.turn.1) tt)
+
+-- a legal step, by its event
+
+pub done_reads : (versions : List ObjectVersion) (now : ClientState) (step : Step) (number position : ℕ) (said : Answer) (job : Job) → IsAlive now → IsFaithful now → IsLegalStep now step → step.event ≡ Done number position (brief_of said) → job_at number now.jobs ≡ Some job → IsSlice versions job.call said → AllByRecursion (GivesOnly (bytes_in said)) step.replies → AllByRecursion (IsReadReply versions now) step.replies
+done_reads versions now step number position said job alive faithful legal is stands slice only =
+    done-at versions now number position said job step.drops step.asks step.replies alive faithful (subst (λ (e : Event). IsLegalStep now (record { event = e; drops = step.drops; asks = step.asks; replies = step.replies })) is legal) stands slice only
+
+pub begun_reads : (versions : List ObjectVersion) (now : ClientState) (step : Step) (line time : ℕ) → IsAlive now → IsLegalStep now step → step.event ≡ Begin line time → AllByRecursion (GivesOnly []) step.replies → AllByRecursion (IsReadReply versions now) step.replies
+begun_reads versions now step line time alive legal is only =
+    begun-at versions now line time step.drops step.asks step.replies alive (subst (λ (e : Event). IsLegalStep now (record { event = e; drops = step.drops; asks = step.asks; replies = step.replies })) is legal) only
+
+pub taken_reads : (versions : List ObjectVersion) (now : ClientState) (step : Step) (number time from : ℕ) → IsAlive now → IsLegalStep now step → step.event ≡ Take number time from → AllByRecursion (IsReadReply versions now) step.replies
+taken_reads versions now step number time from alive legal is =
+    taken-at versions now number time from step.drops step.asks step.replies alive (subst (λ (e : Event). IsLegalStep now (record { event = e; drops = step.drops; asks = step.asks; replies = step.replies })) is legal)
+
+-- and behind a run
+
+pub run_done_reads : (versions : List ObjectVersion) (script : List Line) (steps : List Step) (step : Step) (number position : ℕ) (said : Answer) (job : Job) → AreRising 0 script → IsRunSoFar script steps → IsLegalStep (state_after script steps) step → step.event ≡ Done number position (brief_of said) → job_at number (state_after script steps).jobs ≡ Some job → IsSlice versions job.call said → AllByRecursion (GivesOnly (bytes_in said)) step.replies → AllByRecursion (IsReadReply versions (state_after script steps)) step.replies
+run_done_reads versions script steps step number position said job rising run legal is stands slice only =
+    done_reads versions (state_after script steps) step number position said job (alive script steps rising run) (faithful script steps rising run) legal is stands slice only
+
+pub run_begun_reads : (versions : List ObjectVersion) (script : List Line) (steps : List Step) (step : Step) (line time : ℕ) → AreRising 0 script → IsRunSoFar script steps → IsLegalStep (state_after script steps) step → step.event ≡ Begin line time → AllByRecursion (GivesOnly []) step.replies → AllByRecursion (IsReadReply versions (state_after script steps)) step.replies
+run_begun_reads versions script steps step line time rising run legal is only = begun_reads versions (state_after script steps) step line time (alive script steps rising run) legal is only
+
+pub run_taken_reads : (versions : List ObjectVersion) (script : List Line) (steps : List Step) (step : Step) (number time from : ℕ) → AreRising 0 script → IsRunSoFar script steps → IsLegalStep (state_after script steps) step → step.event ≡ Take number time from → AllByRecursion (IsReadReply versions (state_after script steps)) step.replies
+run_taken_reads versions script steps step number time from rising run legal is = taken_reads versions (state_after script steps) step number time from (alive script steps rising run) legal is
