@@ -25,6 +25,10 @@ program, folder = sys.argv[1:]
 RUNS = 5
 REQUESTS_OF_HALF = 30_000
 COMMENT = "#" + "c" * 8_190
+PIECE = 131_072
+PIECES = 512
+HANDLES = 4_000
+ROUNDS = 5
 
 
 def requests(lines, puts):
@@ -41,6 +45,26 @@ def with_comments(lines, puts):
     for request in requests(lines // 2, puts):
         yield COMMENT
         yield request
+
+
+def big_read(pieces):
+    """An object of 32 MiB, read twice in pieces of 128 KiB."""
+    yield "0 put big t" + "x" * (pieces // 2 * PIECE)
+    yield "1 await"
+    yield "1 openr 1 /big"
+    for n in range(pieces):
+        yield f"1 read 1 {n % (pieces // 2) * PIECE} {PIECE}"
+
+
+def many_handles(handles, rounds):
+    """One small object, opened under many names, which are read in turn."""
+    yield "0 put a t0123456789"
+    yield "1 await"
+    for h in range(handles):
+        yield f"1 openr {h} /a"
+    for n in range(rounds):
+        for h in range(handles):
+            yield f"1 read {h} {n} 4"
 
 
 def write_script(name, lines):
@@ -108,6 +132,8 @@ cases = [
     ("32,768 lines", requests(half, puts), half, f"R {half} file 1"),
     ("65,536 lines", requests(full, 2 * puts), full, f"R {full} file 1"),
     ("8,192 lines, half of them comments of 8,191 bytes", with_comments(commented, 3_000), commented // 2, f"R {commented} file 1"),
+    ("64 MiB read in pieces of 128 KiB", big_read(PIECES), PIECES + 3, f"R {PIECES + 3} data x" + "78" * PIECE),
+    ("4,000 handles, read in turn five times", many_handles(HANDLES, ROUNDS), HANDLES * (ROUNDS + 1) + 2, f"R {HANDLES * (ROUNDS + 1) + 2} data x34353637"),
 ]
 
 print(f"Best of {RUNS} runs, seconds on the wall. The ratio is to the line above.")
@@ -122,6 +148,20 @@ for place, (name, lines, count, last) in enumerate(cases):
     ratio = f"{best / before:.2f}" if place == 1 else ""
     print(f"| {name} | {mib(script_size)} | {mib(record_size)} | {best:.3f} | {ratio} | {peak / 1024:.1f} |", flush=True)
     before = best
+
+# What a read of those bytes can't do without: a copy of each, and its two digits in the record.
+data = b"x" * PIECE
+start = time.perf_counter()
+for n in range(PIECES):
+    bytes(bytearray(data))
+copying = time.perf_counter() - start
+start = time.perf_counter()
+with open(os.path.join(folder, "digits"), "wb") as file:
+    for n in range(PIECES):
+        file.write(data.hex().encode())
+printing = time.perf_counter() - start
+print()
+print(f"To copy those 64 MiB twice takes {copying:.3f} seconds here, and to write them in hexadecimal {printing:.3f}, both by Python.")
 if not all_exact:
     print()
     print("Peak memory is the most of all runs so far, and not less than Python's own.")
