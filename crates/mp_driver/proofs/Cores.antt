@@ -17,7 +17,7 @@ use Rattle.mp_driver.specs.declared.held.HeldAnswer.{HeldAnswer}
 use Rattle.mp_driver.specs.Calls.{Calls}
 use Rattle.mp_driver.specs.Drive.{HasRisenBy, IsDriven, faults_in}
 use Rattle.mp_driver.specs.Held.{answer_for, IsWith}
-use Rattle.mp_driver.proofs.Apart.{answer_for-job}
+use Rattle.mp_driver.proofs.ByJob.{answer_for-job}
 use Rattle.mp_driver.proofs.Between.{IsBetween, IsAtTurn}
 use Rattle.mp_driver.proofs.Jobs.{all_gone}
 use Rattle.mp_driver.proofs.Ties.{tied-start, tied-end}

@@ -1,5 +1,5 @@
 pub mod Positions
-pub mod Apart
+pub mod ByJob
 pub mod Versions
 pub mod Between
 pub mod Growth

@@ -20,7 +20,7 @@ use Rattle.mp_driver.specs.declared.held.HeldAnswer.{HeldAnswer}
 use Rattle.mp_driver.specs.Drive.{ReadsOver}
 use Rattle.mp_driver.specs.Held.{IsWith}
 use Rattle.mp_driver.proofs.Positions.{not_among-below, below-more, All-push}
-use Rattle.mp_driver.proofs.Apart.{answer_for-job}
+use Rattle.mp_driver.proofs.ByJob.{answer_for-job}
 use Rattle.mp_driver.proofs.Between.{HasToldEntry, IsOwed, IsBetween}
 use Rattle.mp_driver.proofs.Growth.{grows-none, owed-more, reads-more, tells-grow, tells-entry}
 use Rattle.mp_driver.proofs.Jobs.{job_at-change, job_at-other, job_at-more, ready_stands, known-taken, known-done, known-asked}

@@ -23,6 +23,7 @@ abbrev pub ReadsOver : Option History → List Line → List Step → Type 0
 ReadsOver None script steps = Unit {0}
 ReadsOver (Some told) script steps = AreReads told.versions script steps
 
+-- whether the answer is a fault
 abbrev pub is_fault : Brief → Bool
 is_fault Fault = true
 is_fault (Found etag size) = false
@@ -41,6 +42,7 @@ has_failed (Begin line time) = false
 has_failed (Take job time from) = false
 has_failed (Done job position answer) = is_fault answer
 
+-- how many jobs ended with a fault in these steps
 abbrev pub faults_in : List Step → ℕ
 faults_in steps = count_by (λ step. has_failed step.event) steps
 

@@ -1,6 +1,6 @@
 -- Answers of calls that were made, until they are handed in.
-use Rattle.std.specs.Prelude.{◌≡◌, ◌≢◌, ℕ, ◌+◌, List, [], ◌∷◌, find, ◌==◌, if◌then◌else◌, Option, Some, None}
-use Rattle.std.specs.List.{count_by}
+use Rattle.std.specs.Prelude.{◌≡◌, ◌≢◌, ℕ, ◌+◌, ◌<◌, List, [], ◌∷◌, find, ◌==◌, if◌then◌else◌, Option, Some, None}
+use Rattle.std.specs.List.{AllByRecursion, count_by}
 use Rattle.bucket_model.specs.Answers.{brief_of}
 use Rattle.mp_driver.specs.declared.held.HeldAnswer.{HeldAnswer}
 use Rattle.mp_driver.specs.Drive.{is_fault}
@@ -13,10 +13,10 @@ answer_for job held = find (λ got. got.job == job) held
 abbrev pub faults_among : List HeldAnswer → ℕ
 faults_among held = count_by (λ got. is_fault (brief_of got.answer)) held
 
--- no two are for one job
-abbrev pub AreApart : List HeldAnswer → Type 0
-AreApart [] = Unit {0}
-AreApart (got ∷ held) = (answer_for got.job held ≡ None) × AreApart held
+-- they stand by rising job
+abbrev pub AreByJob : List HeldAnswer → Type 0
+AreByJob [] = Unit {0}
+AreByJob (got ∷ held) = AllByRecursion (λ other. got.job < other.job) held × AreByJob held
 
 -- the second list is the first one with this answer
 pub record IsWith (got : HeldAnswer) (less more : List HeldAnswer) : Type 0 where

@@ -128,12 +128,17 @@ pub fn drive<S: Store, C: Clock>(
     ensures run { IfOk result (λ done. IsRun core.script done.steps) }
     ensures tied { IfOk result (λ done. IsTiedTo (S.history store.new) core.script (S.position store.old) (S.is_alone store.old) done.steps) }
 
-    // Each read gives bytes of the version that its handle opened.
+    // Each read gives bytes of the version that its handle opened, over the versions that the store tells at the end.
     ensures reads { IfOk result (λ done. ReadsOver (S.history store.new) core.script done.steps) }
+
+    // The record tells at most as many faults as the store's count rose by.
     ensures faults { IfOk result (λ done. HasFewFaults (S.faults store.old) (S.faults store.new) done.steps) }
+
+    // These hold of the store where there was no memory too.
     ensures grows { S.position store.old ≤ S.position store.new }
     ensures faults_grow { S.faults store.old ≤ S.faults store.new }
     ensures honest { S.is_honest store.old → S.is_honest store.new }
+
     ensures oldest { schedule.now ≡ Oldest → IsOk result }
 {
     match schedule {

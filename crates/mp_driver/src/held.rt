@@ -1,5 +1,5 @@
-ghost use Rattle.std.specs.Prelude.{◌≡◌, ◌<◌, None, length, vec_capacity, vec_len};
-ghost use Rattle.mp_driver.specs.Held.{AreApart, IsWith, answer_for};
+ghost use Rattle.std.specs.Prelude.{◌≡◌, ◌<◌, Some, None, length, slice_get, vec_capacity, vec_len};
+ghost use Rattle.mp_driver.specs.Held.{AreByJob, IsWith, answer_for};
 
 use bucket_model::Answer;
 
@@ -11,13 +11,13 @@ pub struct HeldAnswer {
     pub answer: Answer,
 }
 
-// Puts an answer behind those of the jobs below its own, for which there is room.
+// Puts an answer at its place by its job, for which there is room.
 pub fn hold(held: &mut Vec<HeldAnswer>, got: HeldAnswer)
     requires room { vec_len held.old < vec_capacity held.old }
-    requires apart { AreApart held.old.items }
+    requires by_job { AreByJob held.old.items }
     requires new { answer_for got.job held.old.items ≡ None }
     ensures with { IsWith got held.old.items held.new.items }
-    ensures apart { AreApart held.new.items }
+    ensures by_job { AreByJob held.new.items }
 {
     let place = held.partition_point(|other| other.job < got.job);
     match held.insert(place, got) {
@@ -29,9 +29,10 @@ pub fn hold(held: &mut Vec<HeldAnswer>, got: HeldAnswer)
 // Takes out the answer at this place.
 pub fn let_go(held: &mut Vec<HeldAnswer>, place: usize) -> HeldAnswer
     requires within { place < length held.old.items }
-    requires apart { AreApart held.old.items }
+    requires by_job { AreByJob held.old.items }
+    ensures value { slice_get held.old.items place ≡ Some result }
     ensures with { IsWith result held.new.items held.old.items }
-    ensures apart { AreApart held.new.items }
+    ensures by_job { AreByJob held.new.items }
 {
     held.remove(place)
 }

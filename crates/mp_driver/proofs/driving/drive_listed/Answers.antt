@@ -18,7 +18,7 @@ loop-held-init g c =
     let few = few-none (g.S.Store.faults c.args.store.now) (g.S.Store.faults c.args.store.now) c.args.core (few-start (g.S.Store.faults c.args.store.now) c.args.core c.requires) in
     record {
       script = refl;
-      apart = rw c.new-held.ensures.items tt;
+      by_job = rw c.new-held.ensures.items tt;
       between = rw c.new-held.ensures.items start;
       faults = rw c.new-held.ensures.items few;
       alone = λ is. is;
@@ -37,7 +37,7 @@ loop-held-preserved-then-choice-answers g c =
     let was = c.loop-held.invariant in
     record {
       script = c.done.ensures.script ∙ was.script;
-      apart = c.let_go-got.ensures.apart;
+      by_job = c.let_go-got.ensures.by_job;
       between = at-done (g.S.Store.history c.loop-held.store) (g.S.Store.position c.loop-held.store) (g.S.Store.position c.args.store.now) (g.S.Store.is_alone c.args.store.now) got c.let_go-got.new.held.items c.loop-held.held.items c.loop-held.core c.done.new.self c.done.ensures c.let_go-got.ensures.with was.between;
       faults = few-done (g.S.Store.faults c.args.store.now) (g.S.Store.faults c.loop-held.store) (bytes_in got.answer) got c.let_go-got.new.held.items c.loop-held.held.items c.loop-held.core c.done.new.self c.done.ensures c.let_go-got.ensures.with was.faults;
       alone = was.alone;
@@ -62,7 +62,7 @@ loop-held-preserved-in-Some g c =
     let with : IsWith got c.loop-held.held.items c.hold.new.held.items = rw c.reserve.ensures.items at c.hold.ensures.with in
     record {
       script = called.take.script ∙ was.script;
-      apart = c.hold.ensures.apart;
+      by_job = c.hold.ensures.by_job;
       between = at-called (g.S.Store.history c.loop-held.store) (g.S.Store.history c.call_for-got.new.store) c.in-Some.job (g.S.Store.position c.loop-held.store) (g.S.Store.position c.call_for-got.new.store) (g.S.Store.position c.args.store.now) (g.S.Store.faults c.loop-held.store) (g.S.Store.faults c.call_for-got.new.store) (g.S.Store.is_alone c.args.store.now) (g.S.Store.is_alone c.loop-held.store) got c.loop-held.held.items c.hold.new.held.items c.loop-held.core c.call_for-got.new.core called was.alone with was.between;
       faults = few-called c.in-Some.job (g.S.Store.position c.loop-held.store) (g.S.Store.position c.call_for-got.new.store) (g.S.Store.faults c.args.store.now) (g.S.Store.faults c.loop-held.store) (g.S.Store.faults c.call_for-got.new.store) (g.S.Store.is_alone c.loop-held.store) (g.S.Store.history c.loop-held.store) (g.S.Store.history c.call_for-got.new.store) got c.loop-held.held.items c.hold.new.held.items c.loop-held.core c.call_for-got.new.core called with was.faults;
       alone = λ is. c.call_for-got.ensures.alone (was.alone is);
@@ -81,7 +81,7 @@ loop-held-preserved g c =
     let was = c.loop-held.invariant in
     record {
       script = c.begin.ensures.script ∙ was.script;
-      apart = was.apart;
+      by_job = was.by_job;
       between = at-begun (g.S.Store.history c.loop-held.store) (g.S.Store.position c.loop-held.store) (g.S.Store.position c.args.store.now) (g.S.Store.is_alone c.args.store.now) c.loop-held.held.items c.in-Some-startable_at.line _ c.loop-held.core c.begin.new.self c.begin.ensures was.between;
       faults = few-begun _ c.in-Some-startable_at.line _ (g.S.Store.faults c.args.store.now) (g.S.Store.faults c.loop-held.store) [] c.loop-held.core c.begin.new.self c.begin.ensures was.faults;
       alone = was.alone;

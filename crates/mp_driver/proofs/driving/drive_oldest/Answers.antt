@@ -2,7 +2,7 @@ use Rattle.std.proofs.Common.{ℕ, List, [], ◌∷◌, refl, ◌∙◌, arith}
 use Rattle.bucket_model.specs.Answers.{bytes_in}
 use Rattle.mount_model.specs.Run.{ready, startable}
 use Rattle.mount_core.specs.Core.{state_of}
-use Rattle.mp_driver.proofs.Apart.{with-one}
+use Rattle.mp_driver.proofs.ByJob.{with-one}
 use Rattle.mp_driver.proofs.Choices.{none_first}
 use Rattle.mp_driver.proofs.Cores.{at-begun, at-called, at-done, at-end, at-start, may_done}
 use Rattle.mp_driver.proofs.Faults.{few-all, few-begun, few-called, few-done, few-none, few-start}
