@@ -1,6 +1,6 @@
 -- Paths: a text that begins with `/`, cut at each further `/` into names. The text `/` is the root.
-use Rattle.std.specs.Prelude.{ℕ, ◌+◌, Bool, not, ◌&&◌, ◌==◌, nat_eq, nat_lt, if◌then◌else◌, List, [], ◌∷◌, length, Result, Ok, Err}
-use Rattle.std.specs.List.{list_all, slice_split}
+use Rattle.std.specs.Prelude.{◌≡◌, ◌≤◌, true, ℕ, ◌+◌, Bool, not, ◌&&◌, ◌==◌, nat_eq, nat_lt, if◌then◌else◌, List, [], ◌∷◌, length, Result, Ok, Err}
+use Rattle.std.specs.List.{list_all, slice_split, join_with_byte}
 use Rattle.std.specs.Cmp.Lexicographic.{pointwise}
 use Rattle.mp_types.specs.declared.path.PathFault.{PathFault}
 use Rattle.mp_types.specs.declared.path.PathFault.TheVariants.{Empty, TooLong, BadName}
@@ -32,3 +32,28 @@ names_below bytes = if nat_lt 1024 (length bytes) then Err TooLong else checked 
 abbrev pub path_of : List ℕ → Result (List (List ℕ)) PathFault
 path_of [] = Err Empty
 path_of (byte ∷ bytes) = if byte == slash then names_below bytes else Err Empty
+
+-- a byte at which a path is cut
+abbrev pub is_slash : ℕ → Bool
+is_slash byte = byte == slash
+
+-- the names of a text that stands behind the first `/`: the empty one has none
+abbrev pub names_in : List ℕ → List (List ℕ)
+names_in [] = []
+names_in (byte ∷ bytes) = slice_split is_slash (byte ∷ bytes)
+
+-- a part of a path that is no name
+abbrev pub is_bad_name : List ℕ → Bool
+is_bad_name name = not (is_valid_name name)
+
+-- each is a name
+abbrev pub are_names : List (List ℕ) → Bool
+are_names names = list_all is_valid_name names
+
+-- the names in a row, with a `/` between each two: no names give the empty text
+abbrev pub joined : List (List ℕ) → List ℕ
+joined names = join_with_byte slash names
+
+-- a path by what stands behind its first `/`
+abbrev pub IsPathText : List ℕ → List ℕ → Type 0
+IsPathText text below = (path_of text ≡ Ok (names_in below)) × (length below ≤ 1024) × (are_names (names_in below) ≡ true)

@@ -16,8 +16,11 @@ pub use etag::{ETag, ETagFault};
 pub use items::Items;
 pub use key::{Key, KeyFault};
 pub use octets::Data;
-pub use path::PathFault;
+pub use path::{FilePath, PathFault, is_name};
 pub use text::Text;
 
 /// Any bytes, seen by contracts as their list.
 pub type Octets = Items<u8>;
+
+#[cfg(test)]
+mod tests;

@@ -1,0 +1,38 @@
+ghost use Rattle.std.specs.Prelude.{◌≡◌};
+ghost use Rattle.mp_rules.specs.Entry.{kind_of};
+
+/// What the mount itself keeps under a name, until the bucket has it.
+#[derive(Clone, Copy, Debug, PartialEq, Eq)]
+pub enum Local {
+    None,
+    Dir,
+    File,
+}
+
+/// What stands at a name. Of a file, remote means that it is an object.
+#[derive(Clone, Copy, Debug, PartialEq, Eq)]
+pub enum Kind {
+    RemoteDir,
+    LocalDir,
+    LocalFile,
+    RemoteFile,
+    Nothing,
+}
+
+/// What stands at a name, by whether some key lies below it, what is kept under it, and the size of the object with
+/// its key. A remote directory hides all else, and what is local hides the object, as Mountpoint says.
+pub fn entry_of(probe: bool, local: Local, head: Option<u64>) -> Kind
+    ensures { result ≡ kind_of probe local head }
+{
+    if probe {
+        return Kind::RemoteDir;
+    }
+    match local {
+        Local::Dir => Kind::LocalDir,
+        Local::File => Kind::LocalFile,
+        Local::None => match head {
+            Some(_) => Kind::RemoteFile,
+            None => Kind::Nothing,
+        },
+    }
+}

@@ -1,0 +1,15 @@
+//! The rules of a file system over a bucket: which names there are, which key a path has, what stands below what,
+//! what hides what, and in which order names come.
+//! Nothing here knows of requests, of the bucket's calls or of records. Only `key_of` takes memory.
+#![tactic(auto)]
+
+mod entry;
+mod keys;
+mod names;
+
+pub use entry::{Kind, Local, entry_of};
+pub use keys::{below, key_of};
+pub use names::{name_order, names_are_ordered, valid_name};
+
+#[cfg(test)]
+mod tests;

@@ -1,0 +1,68 @@
+use super::*;
+use mp_types::FilePath;
+use std::alloc::Global;
+use std::cmp::Ordering;
+use std::test::*;
+
+fn key_of_text(alloc: Global, text: &str) -> Result<mp_types::Text, Fail> {
+    match FilePath::parse(alloc, text) {
+        Ok(path) => Ok(key_of(alloc, &path)?),
+        Err(_) => Err("it is a path".into()),
+    }
+}
+
+#[test]
+fn names_are_told_from_other_texts(rt: HostRuntime) -> Result<(), Fail> {
+    assert!(rt; valid_name("a"));
+    assert!(rt; valid_name("..."));
+    assert!(rt; !valid_name(""));
+    assert!(rt; !valid_name("."));
+    assert!(rt; !valid_name(".."));
+    assert!(rt; !valid_name("a/b"));
+    assert!(rt; !valid_name("a\0"));
+    Ok(())
+}
+
+#[test]
+fn a_path_has_a_key(rt: HostRuntime) -> Result<(), Fail> {
+    assert_eq!(rt; key_of_text(rt.alloc(), "/")?.as_str(), "");
+    assert_eq!(rt; key_of_text(rt.alloc(), "/a")?.as_str(), "a");
+    assert_eq!(rt; key_of_text(rt.alloc(), "/a/b/c")?.as_str(), "a/b/c");
+    Ok(())
+}
+
+#[test]
+fn keys_lie_below_directories(rt: HostRuntime) -> Result<(), Fail> {
+    assert!(rt; below("a/b", "a"));
+    assert!(rt; below("a/b/c", "a/b"));
+    assert!(rt; below("a/", "a"));
+    assert!(rt; below("a", ""));
+    assert!(rt; !below("a", "a"));
+    assert!(rt; !below("ab/c", "a"));
+    assert!(rt; !below("a", "a/b"));
+    assert!(rt; !below("b/a", "a"));
+    Ok(())
+}
+
+#[test]
+fn the_remote_directory_hides_all_else(rt: HostRuntime) -> Result<(), Fail> {
+    assert_eq!(rt; entry_of(true, Local::None, None), Kind::RemoteDir);
+    assert_eq!(rt; entry_of(true, Local::File, Some(1)), Kind::RemoteDir);
+    assert_eq!(rt; entry_of(false, Local::Dir, Some(1)), Kind::LocalDir);
+    assert_eq!(rt; entry_of(false, Local::File, Some(1)), Kind::LocalFile);
+    assert_eq!(rt; entry_of(false, Local::None, Some(1)), Kind::RemoteFile);
+    assert_eq!(rt; entry_of(false, Local::None, None), Kind::Nothing);
+    Ok(())
+}
+
+// `-` comes before `/`, and `0` behind it.
+#[test]
+fn names_come_as_the_keys_below_them(rt: HostRuntime) -> Result<(), Fail> {
+    assert_eq!(rt; name_order("a", "b"), Ordering::Less);
+    assert_eq!(rt; name_order("a", "a"), Ordering::Equal);
+    assert_eq!(rt; name_order("a-b", "a"), Ordering::Less);
+    assert_eq!(rt; name_order("a", "a-b"), Ordering::Greater);
+    assert_eq!(rt; name_order("a", "a0"), Ordering::Less);
+    assert_eq!(rt; name_order("b", "a0"), Ordering::Greater);
+    Ok(())
+}

@@ -1,0 +1,77 @@
+use super::*;
+use std::alloc::Global;
+use std::test::*;
+
+fn parse(alloc: Global, text: &str) -> Result<FilePath, Fail> {
+    FilePath::parse(alloc, text)
+        .ok()
+        .ok_or_else(|| "it is a path".into())
+}
+
+fn fault(alloc: Global, text: &str) -> Option<PathFault> {
+    FilePath::parse(alloc, text).err()
+}
+
+// A path of one name.
+fn path_of_length(alloc: Global, len: usize) -> Result<Text, Fail> {
+    let mut text = String::from_str(alloc, "/")?;
+    for _ in 0..len {
+        text.push('a')?;
+    }
+    Ok(Text::from_string(text))
+}
+
+#[test]
+fn a_path_has_its_names(rt: HostRuntime) -> Result<(), Fail> {
+    let path = parse(rt.alloc(), "/a/bc")?;
+    assert!(rt; !path.is_root());
+    assert_eq!(rt; path.len(), 2);
+    assert_eq!(rt; path.name_at(0), Some("a"));
+    assert_eq!(rt; path.name_at(1), Some("bc"));
+    assert_eq!(rt; path.name_at(2), None);
+    assert_eq!(rt; path.as_key(), "a/bc");
+    let copied = path.copy(rt.alloc())?;
+    assert_eq!(rt; copied.as_key(), "a/bc");
+    Ok(())
+}
+
+#[test]
+fn the_root_has_no_names(rt: HostRuntime) -> Result<(), Fail> {
+    let root = parse(rt.alloc(), "/")?;
+    assert!(rt; root.is_root());
+    assert_eq!(rt; root.len(), 0);
+    assert_eq!(rt; root.name_at(0), None);
+    assert_eq!(rt; root.as_key(), "");
+    Ok(())
+}
+
+#[test]
+fn a_path_begins_with_a_slash(rt: HostRuntime) -> Result<(), Fail> {
+    assert_eq!(rt; fault(rt.alloc(), ""), Some(PathFault::Empty));
+    assert_eq!(rt; fault(rt.alloc(), "a"), Some(PathFault::Empty));
+    assert_eq!(rt; fault(rt.alloc(), "a/b"), Some(PathFault::Empty));
+    Ok(())
+}
+
+#[test]
+fn a_bad_name_is_told_by_its_place(rt: HostRuntime) -> Result<(), Fail> {
+    assert_eq!(rt; fault(rt.alloc(), "/a/"), Some(PathFault::BadName(1)));
+    assert_eq!(rt; fault(rt.alloc(), "//"), Some(PathFault::BadName(0)));
+    assert_eq!(rt; fault(rt.alloc(), "/."), Some(PathFault::BadName(0)));
+    assert_eq!(rt; fault(rt.alloc(), "/a/.."), Some(PathFault::BadName(1)));
+    assert_eq!(rt; fault(rt.alloc(), "/a/b\0/."), Some(PathFault::BadName(1)));
+    assert_eq!(rt; fault(rt.alloc(), "/.a/..b/..."), None);
+    Ok(())
+}
+
+#[test]
+fn a_path_has_at_most_1024_bytes_below(rt: HostRuntime) -> Result<(), Fail> {
+    let longest = path_of_length(rt.alloc(), 1024)?;
+    assert_eq!(rt; parse(rt.alloc(), longest.as_str())?.as_key().len(), 1024);
+    let longer = path_of_length(rt.alloc(), 1025)?;
+    assert_eq!(rt;
+        fault(rt.alloc(), longer.as_str()),
+        Some(PathFault::TooLong)
+    );
+    Ok(())
+}
