@@ -4,6 +4,7 @@ use Rattle.std.proofs.lemmas.Map.Keys.{any_passes_from_place}
 use Rattle.std.specs.List.{AllByRecursion, slice_get}
 use Rattle.std.specs.Prelude.{◌==◌, if◌then◌else◌, length}
 use Rattle.bucket_model.specs.declared.call.Call.{Call}
+use Rattle.mount_model.specs.Heard.{question_of}
 use Rattle.mount_model.specs.State.{Job, JobPhase, Ready, Out, Gone, job_at, change_job}
 use Rattle.mount_model.specs.Run.{ready, is_among}
 use Rattle.job_table.specs.LiveJobs.{Held, IsReadyIn, IsOutIn, held_at, with_taken, without, ready_numbers, held_of, AreNumbered}
@@ -11,8 +12,8 @@ use Rattle.job_table.proofs.Rising.{IsSame, IsOther, same_or_other, is_other}
 
 -- what stands of one job
 abbrev pub held_by : Job → JobPhase → List Held
-held_by job Ready = record { number = job.number; line = job.line; call = Some job.call } ∷ []
-held_by job (Out from) = record { number = job.number; line = job.line; call = None } ∷ []
+held_by job Ready = record { number = job.number; line = job.line; call = Some job.call; question = question_of job.call } ∷ []
+held_by job (Out from) = record { number = job.number; line = job.line; call = None; question = question_of job.call } ∷ []
 held_by job Gone = []
 
 held_by_cons : (number line : ℕ) (call : Call) (phase : JobPhase) (jobs : List Job) → held_of (record { number = number; line = line; call = call; phase = phase } ∷ jobs) ≡ held_by (record { number = number; line = line; call = call; phase = phase }) phase ++ held_of jobs
@@ -24,14 +25,14 @@ pub held_of-cons : (job : Job) (jobs : List Job) → held_of (job ∷ jobs) ≡ 
 held_of-cons job jobs = held_by_cons job.number job.line job.call job.phase jobs
 
 -- one more job, which is ready
-pub held_of-push : (jobs : List Job) (number line : ℕ) (call : Call) → held_of (jobs ++ record { number = number; line = line; call = call; phase = Ready } ∷ []) ≡ held_of jobs ++ record { number = number; line = line; call = Some call } ∷ []
+pub held_of-push : (jobs : List Job) (number line : ℕ) (call : Call) → held_of (jobs ++ record { number = number; line = line; call = call; phase = Ready } ∷ []) ≡ held_of jobs ++ record { number = number; line = line; call = Some call; question = question_of call } ∷ []
 held_of-push [] number line call = refl
 held_of-push (job ∷ jobs) number line call = by_phase job.phase (held_of-push jobs number line call)
   where
-    by_phase : (phase : JobPhase) → held_of (jobs ++ record { number = number; line = line; call = call; phase = Ready } ∷ []) ≡ held_of jobs ++ record { number = number; line = line; call = Some call } ∷ []
-        → held_of (record { number = job.number; line = job.line; call = job.call; phase = phase } ∷ jobs ++ record { number = number; line = line; call = call; phase = Ready } ∷ []) ≡ held_of (record { number = job.number; line = job.line; call = job.call; phase = phase } ∷ jobs) ++ record { number = number; line = line; call = Some call } ∷ []
-    by_phase Ready rest = ap (λ t. record { number = job.number; line = job.line; call = Some job.call } ∷ t) rest
-    by_phase (Out from) rest = ap (λ t. record { number = job.number; line = job.line; call = None } ∷ t) rest
+    by_phase : (phase : JobPhase) → held_of (jobs ++ record { number = number; line = line; call = call; phase = Ready } ∷ []) ≡ held_of jobs ++ record { number = number; line = line; call = Some call; question = question_of call } ∷ []
+        → held_of (record { number = job.number; line = job.line; call = job.call; phase = phase } ∷ jobs ++ record { number = number; line = line; call = call; phase = Ready } ∷ []) ≡ held_of (record { number = job.number; line = job.line; call = job.call; phase = phase } ∷ jobs) ++ record { number = number; line = line; call = Some call; question = question_of call } ∷ []
+    by_phase Ready rest = ap (λ t. record { number = job.number; line = job.line; call = Some job.call; question = question_of job.call } ∷ t) rest
+    by_phase (Out from) rest = ap (λ t. record { number = job.number; line = job.line; call = None; question = question_of job.call } ∷ t) rest
     by_phase Gone rest = rest
 
 -- the ready jobs
@@ -156,17 +157,17 @@ held_of-out n first from (head ∷ jobs) job numbered stands is_ready =
 
 -- where a job of the run stands
 
-out_here : (n from : ℕ) (head : Job) (phase : JobPhase) (more : List Held) → IsSame n head.number → phase ≡ Out from → held_at n (held_by head phase ++ more) ≡ Some (record { number = n; line = head.line; call = None })
+out_here : (n from : ℕ) (head : Job) (phase : JobPhase) (more : List Held) → IsSame n head.number → phase ≡ Out from → held_at n (held_by head phase ++ more) ≡ Some (record { number = n; line = head.line; call = None; question = question_of head.call })
 out_here n from head Ready more same is_out = absurd (cc)
 out_here n from head (Out since) more same is_out = rw (same.test, same.same) refl
 out_here n from head Gone more same is_out = absurd (cc)
 
-ready_here : (n : ℕ) (head : Job) (phase : JobPhase) (more : List Held) → IsSame n head.number → phase ≡ Ready → held_at n (held_by head phase ++ more) ≡ Some (record { number = n; line = head.line; call = Some head.call })
+ready_here : (n : ℕ) (head : Job) (phase : JobPhase) (more : List Held) → IsSame n head.number → phase ≡ Ready → held_at n (held_by head phase ++ more) ≡ Some (record { number = n; line = head.line; call = Some head.call; question = question_of head.call })
 ready_here n head Ready more same is_ready = rw (same.test, same.same) refl
 ready_here n head (Out since) more same is_ready = absurd (cc)
 ready_here n head Gone more same is_ready = absurd (cc)
 
-pub held_at-out : (n from : ℕ) (jobs : List Job) (job : Job) → job_at n jobs ≡ Some job → job.phase ≡ Out from → held_at n (held_of jobs) ≡ Some (record { number = n; line = job.line; call = None })
+pub held_at-out : (n from : ℕ) (jobs : List Job) (job : Job) → job_at n jobs ≡ Some job → job.phase ≡ Out from → held_at n (held_of jobs) ≡ Some (record { number = n; line = job.line; call = None; question = question_of job.call })
 held_at-out n from [] job stands is_out = absurd (cc)
 held_at-out n from (head ∷ jobs) job stands is_out =
     elim (same_or_other n head.number) [
@@ -180,7 +181,7 @@ held_at-out n from (head ∷ jobs) job stands is_out =
           held_at-other n head jobs w ∙ held_at-out n from jobs job later is_out
     ]
 
-pub held_at-ready : (n : ℕ) (jobs : List Job) (job : Job) → job_at n jobs ≡ Some job → job.phase ≡ Ready → held_at n (held_of jobs) ≡ Some (record { number = n; line = job.line; call = Some job.call })
+pub held_at-ready : (n : ℕ) (jobs : List Job) (job : Job) → job_at n jobs ≡ Some job → job.phase ≡ Ready → held_at n (held_of jobs) ≡ Some (record { number = n; line = job.line; call = Some job.call; question = question_of job.call })
 held_at-ready n [] job stands is_ready = absurd (cc)
 held_at-ready n (head ∷ jobs) job stands is_ready =
     elim (same_or_other n head.number) [
@@ -196,14 +197,14 @@ held_at-ready n (head ∷ jobs) job stands is_ready =
 
 pub is_out_in : (n from : ℕ) (jobs : List Job) (job : Job) → job_at n jobs ≡ Some job → job.phase ≡ Out from → IsOutIn n (held_of jobs)
 is_out_in n from jobs job stands is_out = record {
-  job = record { number = n; line = job.line; call = None };
+  job = record { number = n; line = job.line; call = None; question = question_of job.call };
   stands = held_at-out n from jobs job stands is_out;
   is_out = refl;
 }
 
 pub is_ready_in : (n : ℕ) (jobs : List Job) (job : Job) → job_at n jobs ≡ Some job → job.phase ≡ Ready → IsReadyIn n (held_of jobs)
 is_ready_in n jobs job stands is_ready = record {
-  job = record { number = n; line = job.line; call = Some job.call };
+  job = record { number = n; line = job.line; call = Some job.call; question = question_of job.call };
   stands = held_at-ready n jobs job stands is_ready;
   called = job.call;
   waits = refl;

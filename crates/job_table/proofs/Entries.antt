@@ -1,5 +1,5 @@
 -- The jobs as a map's entries, and the ready numbers as a set's keys.
-use Rattle.std.proofs.Common.{◌≡◌, ℕ, ◌+◌, ◌<◌, inl, inr, List, [], ◌∷◌, ◌++◌, Some, None, refl, sym, ap, ◌∙◌, subst, arith, nat_cmp, Ordering, Less, Equal, Greater}
+use Rattle.std.proofs.Common.{◌≡◌, ℕ, ◌+◌, ◌<◌, inl, inr, List, [], ◌∷◌, ◌++◌, Option, Some, None, refl, sym, ap, ◌∙◌, subst, arith, nat_cmp, Ordering, Less, Equal, Greater}
 use Rattle.std.proofs.lemmas.Cmp.{ranked}
 use Rattle.std.proofs.lemmas.List.{map-append}
 use Rattle.std.specs.BTreeMap.{is_at, insert_entry}
@@ -8,6 +8,7 @@ use Rattle.std.specs.List.{AllByRecursion}
 use Rattle.std.specs.Map.{lookup, remove_entry, set_value}
 use Rattle.std.specs.Ordering.{MatchOrdering}
 use Rattle.std.specs.Set.{remove_key}
+use Rattle.mp_rules.specs.declared.facts.Question.{Question}
 use Rattle.bucket_model.specs.declared.call.Call.{Call}
 use Rattle.job_table.specs.declared.jobs.Live.{Live}
 use Rattle.job_table.specs.LiveJobs.{Held, LiveJobs, IsOutIn, held_at, with_taken, without}
@@ -79,17 +80,18 @@ removed_in k first last (e ∷ es) rises =
       | inr w ↦ rw (w.test, w.by_order) (ap (λ t. held_entry e ∷ t) (removed_in k e.0 last es rises.1))
     ]
 
-set_in : (k first last : ℕ) (es : List (ℕ × Live)) (old new : Live) → IsBetween first (held_in es) last → lookup (is_at (nat_cmp k)) es ≡ Some old → new.line ≡ old.line → new.call ≡ None → held_in (set_value (is_at (nat_cmp k)) es new) ≡ with_taken k (held_in es)
-set_in k first last [] old new rises finds line call = refl
-set_in k first last (e ∷ es) old new rises finds line call =
+set_in : (k first last : ℕ) (es : List (ℕ × Live)) (old new : Live) → IsBetween first (held_in es) last → lookup (is_at (nat_cmp k)) es ≡ Some old → new.line ≡ old.line → new.question ≡ old.question → new.call ≡ None → held_in (set_value (is_at (nat_cmp k)) es new) ≡ with_taken k (held_in es)
+set_in k first last [] old new rises finds line question call = refl
+set_in k first last (e ∷ es) old new rises finds line question call =
     elim (same_or_other k e.0) [
       | inl w ↦
           let here : Some e.1 ≡ Some old = rw w.by_order at finds in
           let same : new.line ≡ e.1.line = cc in
-          rw (w.test, w.by_order, same, call, taken_none k e.0 last (held_in es) (omega (arith, w.same)) rises.1) refl
+          let asked : new.question ≡ e.1.question = cc in
+          rw (w.test, w.by_order, same, asked, call, taken_none k e.0 last (held_in es) (omega (arith, w.same)) rises.1) refl
       | inr w ↦
           let later : lookup (is_at (nat_cmp k)) es ≡ Some old = rw w.by_order at finds in
-          rw (w.test, w.by_order) (ap (λ t. held_entry e ∷ t) (set_in k e.0 last es old new rises.1 later line call))
+          rw (w.test, w.by_order) (ap (λ t. held_entry e ∷ t) (set_in k e.0 last es old new rises.1 later line question call))
     ]
 
 -- the table's steps
@@ -99,21 +101,21 @@ held_more : (es more : List (ℕ × Live)) (ready : List ℕ) (count number : �
 held_more es more ready count number live kept next is =
     ap held_in (is ∙ insert_last number live 0 count es kept.rises (omega (arith, next))) ∙ map-append held_entry es ((number, live) ∷ [])
 
-pub adds_one : (es more : List (ℕ × Live)) (ready : List ℕ) (count number line : ℕ) (called : Call) → IsKept es ready count → number ≡ count + 1 → more ≡ insert_entry nat_cmp es number (record { line = line; call = Some called })
-    → jobs_of number (held_in more) ≡ jobs_of (count + 1) (held_in es ++ record { number = count + 1; line = line; call = Some called } ∷ [])
-adds_one es more ready count number line called kept next is =
-    let same : held_in more ≡ held_in es ++ held_entry (number, record { line = line; call = Some called }) ∷ [] = held_more es more ready count number (record { line = line; call = Some called }) kept next is in
+pub adds_one : (es more : List (ℕ × Live)) (ready : List ℕ) (count number line : ℕ) (called : Call) (question : Option Question) → IsKept es ready count → number ≡ count + 1 → more ≡ insert_entry nat_cmp es number (record { line = line; call = Some called; question = question })
+    → jobs_of number (held_in more) ≡ jobs_of (count + 1) (held_in es ++ record { number = count + 1; line = line; call = Some called; question = question } ∷ [])
+adds_one es more ready count number line called question kept next is =
+    let same : held_in more ≡ held_in es ++ held_entry (number, record { line = line; call = Some called; question = question }) ∷ [] = held_more es more ready count number (record { line = line; call = Some called; question = question }) kept next is in
     rw (same, next) refl
 
 low : (es : List (ℕ × Live)) (ready : List ℕ) (count number : ℕ) → IsKept es ready count → number ≡ count + 1 → AllByRecursion (λ n. n < number) ready
 low es ready count number kept next = subst (AllByRecursion (λ n. n < number)) (sym kept.stands) (ready_below number 0 count (held_in es) kept.rises (omega (arith, next)))
 
-pub keeps_more : (es more : List (ℕ × Live)) (ready keys : List ℕ) (count number line : ℕ) (called : Call) → IsKept es ready count → number ≡ count + 1 → keys ≡ insert_key nat_cmp ready number → more ≡ insert_entry nat_cmp es number (record { line = line; call = Some called }) → IsKept more keys number
-keeps_more es more ready keys count number line called kept next is_key is_entry =
-    let same : held_in more ≡ held_in es ++ held_entry (number, record { line = line; call = Some called }) ∷ [] = held_more es more ready count number (record { line = line; call = Some called }) kept next is_entry in
+pub keeps_more : (es more : List (ℕ × Live)) (ready keys : List ℕ) (count number line : ℕ) (called : Call) (question : Option Question) → IsKept es ready count → number ≡ count + 1 → keys ≡ insert_key nat_cmp ready number → more ≡ insert_entry nat_cmp es number (record { line = line; call = Some called; question = question }) → IsKept more keys number
+keeps_more es more ready keys count number line called question kept next is_key is_entry =
+    let same : held_in more ≡ held_in es ++ held_entry (number, record { line = line; call = Some called; question = question }) ∷ [] = held_more es more ready count number (record { line = line; call = Some called; question = question }) kept next is_entry in
     record {
-      rises = rw same (between_push 0 count (held_in es) (held_entry (number, record { line = line; call = Some called })) kept.rises (omega (arith, next)));
-      stands = rw same (is_key ∙ insert_key_last number ready (low es ready count number kept next) ∙ ap (λ t. t ++ number ∷ []) kept.stands ∙ sym (ready_push number line called (held_in es)));
+      rises = rw same (between_push 0 count (held_in es) (held_entry (number, record { line = line; call = Some called; question = question })) kept.rises (omega (arith, next)));
+      stands = rw same (is_key ∙ insert_key_last number ready (low es ready count number kept next) ∙ ap (λ t. t ++ number ∷ []) kept.stands ∙ sym (ready_push number line called question (held_in es)));
     }
 
 -- a number that was added goes again
@@ -123,8 +125,8 @@ keeps_undone es same ready keys left count number kept next added is removed =
     let back : left ≡ ready = removed ∙ ap (remove_key (is_at (nat_cmp number))) (added ∙ insert_key_last number ready below) ∙ remove_key_last number ready below in
     rw (is, back) kept
 
-pub held_taken : (k : ℕ) (es after : List (ℕ × Live)) (ready : List ℕ) (count : ℕ) (old new : Live) → IsKept es ready count → lookup (is_at (nat_cmp k)) es ≡ Some old → after ≡ set_value (is_at (nat_cmp k)) es new → new.line ≡ old.line → new.call ≡ None → held_in after ≡ with_taken k (held_in es)
-held_taken k es after ready count old new kept finds is line call = ap held_in is ∙ set_in k 0 count es old new kept.rises finds line call
+pub held_taken : (k : ℕ) (es after : List (ℕ × Live)) (ready : List ℕ) (count : ℕ) (old new : Live) → IsKept es ready count → lookup (is_at (nat_cmp k)) es ≡ Some old → after ≡ set_value (is_at (nat_cmp k)) es new → new.line ≡ old.line → new.question ≡ old.question → new.call ≡ None → held_in after ≡ with_taken k (held_in es)
+held_taken k es after ready count old new kept finds is line question call = ap held_in is ∙ set_in k 0 count es old new kept.rises finds line question call
 
 pub keeps_taken : (k : ℕ) (es after : List (ℕ × Live)) (ready keys : List ℕ) (count : ℕ) → IsKept es ready count → held_in after ≡ with_taken k (held_in es) → keys ≡ remove_key (is_at (nat_cmp k)) ready → IsKept after keys count
 keeps_taken k es after ready keys count kept same removed = record {

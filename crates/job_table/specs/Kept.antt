@@ -4,7 +4,7 @@ use Rattle.job_table.specs.declared.jobs.Live.{Live}
 use Rattle.job_table.specs.LiveJobs.{Held, ready_numbers}
 
 abbrev pub held_entry : ℕ × Live → Held
-held_entry e = record { number = e.0; line = e.1.line; call = e.1.call }
+held_entry e = record { number = e.0; line = e.1.line; call = e.1.call; question = e.1.question }
 
 abbrev pub held_in : List (ℕ × Live) → List Held
 held_in entries = map held_entry entries

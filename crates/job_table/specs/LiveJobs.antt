@@ -1,13 +1,17 @@
 -- The jobs that are ready or out.
 use Rattle.std.specs.Prelude.{◌≡◌, ℕ, ◌+◌, List, [], ◌∷◌, map, find, filter, not, ◌==◌, if◌then◌else◌, Option, Some, None}
+use Rattle.mp_rules.specs.declared.facts.Question.{Question}
 use Rattle.bucket_model.specs.declared.call.Call.{Call}
+use Rattle.mount_model.specs.Heard.{question_of}
 use Rattle.mount_model.specs.State.{Job, JobPhase, Ready, Out, Gone}
 
--- a job that is ready or out, with the line whose turn asked for it: the call stands here while the job is ready
+-- a job that is ready or out, with the line whose turn asked for it, and the question that it asks, if it asks one:
+-- the call stands here while the job is ready
 pub record Held : Type 0 where
   pub number : ℕ
   pub line : ℕ
   pub call : Option Call
+  pub question : Option Question
 
 -- how many jobs were asked in all, and those that are ready or out, by rising number
 pub record LiveJobs : Type 0 where
@@ -19,7 +23,7 @@ held_at number held = find (λ h. h.number == number) held
 
 -- the job's call has moved out
 abbrev pub taken : Held → Held
-taken h = record { number = h.number; line = h.line; call = None }
+taken h = record { number = h.number; line = h.line; call = None; question = h.question }
 
 abbrev pub with_taken : ℕ → List Held → List Held
 with_taken number held = map (λ h. if h.number == number then taken h else h) held
@@ -56,8 +60,8 @@ held_of [] = []
 held_of (job ∷ jobs) = by_phase job.phase (held_of jobs)
   where
     by_phase : JobPhase → List Held → List Held
-    by_phase Ready more = record { number = job.number; line = job.line; call = Some job.call } ∷ more
-    by_phase (Out from) more = record { number = job.number; line = job.line; call = None } ∷ more
+    by_phase Ready more = record { number = job.number; line = job.line; call = Some job.call; question = question_of job.call } ∷ more
+    by_phase (Out from) more = record { number = job.number; line = job.line; call = None; question = question_of job.call } ∷ more
     by_phase Gone more = more
 
 -- the jobs have the numbers from this one on, one after the other

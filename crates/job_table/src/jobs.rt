@@ -2,6 +2,7 @@ ghost use Rattle.std.specs.Prelude.{◌≡◌, ◌+◌, ◌↔◌, ◌∷◌, []
 ghost use Rattle.job_table.specs.LiveJobs.{Held, IsReadyIn, IsOutIn, held_at, with_taken, without, ready_numbers};
 
 use bucket_model::Call;
+use mp_rules::Question;
 use std::alloc::{AllocError, Global};
 use std::collections::{BTreeMap, BTreeSet};
 use std::marker::Model;
@@ -11,6 +12,14 @@ use std::marker::Model;
 struct Live {
     line: u32,
     call: Option<Call>,
+    question: Option<Question>,
+}
+
+/// Whose turn asked, and the question that was asked, if it was one.
+#[derive(Debug, Drop)]
+pub struct Asker {
+    pub line: u32,
+    pub question: Option<Question>,
 }
 
 /// The jobs that are ready or out, by number. A job's number is how many were asked before it, and one.
@@ -46,11 +55,16 @@ impl Jobs {
         }
     }
 
-    /// One more job, which is ready, of the line whose turn asks for it, and its number. An error, which is want of
-    /// memory or of numbers, drops the call.
-    pub fn ask(&mut self, line: u32, call: Call) -> Result<u64, AllocError>
+    /// One more job, which is ready, of the line whose turn asks for it, and its number. The question is the one that
+    /// the call asks, if it asks one. An error, which is want of memory or of numbers, drops both.
+    pub fn ask(
+        &mut self,
+        line: u32,
+        call: Call,
+        question: Option<Question>,
+    ) -> Result<u64, AllocError>
         ensures number { IfOk result (λ number. number ≡ self.old.count + 1) }
-        ensures ok { OnOk result (self.new ≡ record { count = self.old.count + 1; held = self.old.held ++ record { number = self.old.count + 1; line = line; call = Some call } ∷ [] }) }
+        ensures ok { OnOk result (self.new ≡ record { count = self.old.count + 1; held = self.old.held ++ record { number = self.old.count + 1; line = line; call = Some call; question = question } ∷ [] }) }
         ensures err { OnErr result (self.new ≡ self.old) }
     {
         let number = match self.count.checked_add(1) {
@@ -64,6 +78,7 @@ impl Jobs {
         let live = Live {
             line,
             call: Some(call),
+            question,
         };
         match self.live.insert(number, live) {
             Ok(_) => {}
@@ -95,15 +110,18 @@ impl Jobs {
         call
     }
 
-    /// The line whose turn asked for this job, which is out, and is gone from now on. Takes no memory.
-    pub fn done(&mut self, job: u64) -> u32
+    /// Who asked for this job, which is out, and is gone from now on. Takes no memory.
+    pub fn done(&mut self, job: u64) -> Asker
         requires { IsOutIn job self.old.held }
-        ensures line { (h : Held) → held_at job self.old.held ≡ Some h → result ≡ h.line }
+        ensures asker { (h : Held) → held_at job self.old.held ≡ Some h → (result.line ≡ h.line) × (result.question ≡ h.question) }
         ensures count { self.new.count ≡ self.old.count }
         ensures held { self.new.held ≡ without job self.old.held }
     {
         match self.live.remove(&job) {
-            Some(live) => live.line,
+            Some(live) => Asker {
+                line: live.line,
+                question: live.question,
+            },
             None => unreachable!(),
         }
     }
@@ -148,13 +166,27 @@ mod tests {
         }
     }
 
+    fn asked(alloc: Global, key: &str) -> Result<Question, Fail> {
+        Ok(Question::Head(Key::parse(alloc, key)?))
+    }
+
+    fn is_asked(question: &Option<Question>, expected: &str) -> bool {
+        match question {
+            Some(Question::Head(key)) => key.as_str() == expected,
+            _ => false,
+        }
+    }
+
     #[test]
     fn a_job_is_ready_until_it_is_taken(rt: HostRuntime) -> Result<(), Fail> {
         let alloc = rt.alloc();
         let mut jobs = Jobs::new(alloc);
-        assert_eq!(rt; jobs.ask(7, head(alloc, "a")?)?, 1);
-        assert_eq!(rt; jobs.ask(8, head(alloc, "b")?)?, 2);
-        assert_eq!(rt; jobs.ask(9, head(alloc, "c")?)?, 3);
+        assert_eq!(rt; jobs.ask(7, head(alloc, "a")?, None)?, 1);
+        assert_eq!(rt;
+            jobs.ask(8, head(alloc, "b")?, Some(asked(alloc, "b")?))?,
+            2
+        );
+        assert_eq!(rt; jobs.ask(9, head(alloc, "c")?, None)?, 3);
         assert_eq!(rt; jobs.ready(0), Some(1));
         assert_eq!(rt; jobs.ready(1), Some(2));
         assert_eq!(rt; jobs.ready(2), Some(3));
@@ -165,7 +197,9 @@ mod tests {
         assert_eq!(rt; jobs.ready(1), Some(3));
         assert_eq!(rt; jobs.ready(2), None);
         assert_eq!(rt; jobs.ready_len(), 2);
-        assert_eq!(rt; jobs.done(2), 8);
+        let asker = jobs.done(2);
+        assert_eq!(rt; asker.line, 8);
+        assert!(rt; is_asked(&asker.question, "b"));
         assert_eq!(rt; jobs.ready(0), Some(1));
         Ok(())
     }
@@ -175,14 +209,16 @@ mod tests {
         let alloc = rt.alloc();
         let mut jobs = Jobs::new(alloc);
         assert!(rt; jobs.is_empty());
-        assert_eq!(rt; jobs.ask(7, head(alloc, "a")?)?, 1);
+        assert_eq!(rt; jobs.ask(7, head(alloc, "a")?, None)?, 1);
         let call = jobs.take(1);
         assert!(rt; is_head(&call, "a"));
         assert_eq!(rt; jobs.ready(0), None);
         assert!(rt; !jobs.is_empty());
-        assert_eq!(rt; jobs.done(1), 7);
+        let asker = jobs.done(1);
+        assert_eq!(rt; asker.line, 7);
+        assert!(rt; asker.question.is_none());
         assert!(rt; jobs.is_empty());
-        assert_eq!(rt; jobs.ask(7, head(alloc, "b")?)?, 2);
+        assert_eq!(rt; jobs.ask(7, head(alloc, "b")?, None)?, 2);
         Ok(())
     }
 }

@@ -4,4 +4,4 @@
 
 mod jobs;
 
-pub use jobs::Jobs;
+pub use jobs::{Asker, Jobs};

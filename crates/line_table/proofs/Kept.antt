@@ -2,7 +2,8 @@
 use Rattle.std.proofs.Common.{◌≡◌, ℕ, suc, ◌<◌, ◌≤◌, List, [], ◌∷◌, length, get_or, set, true, Option, Some, slice_get, refl, sym, ap, subst, ◌∙◌, arith}
 use Rattle.std.specs.List.{remove}
 use Rattle.std.proofs.lemmas.Option.{get_or_from_slice_get, slice_get_within}
-use Rattle.bucket_model.specs.declared.answer.Brief.{Brief}
+use Rattle.mount_model.specs.declared.standing.Told.{Told}
+use Rattle.mount_model.specs.Heard.{nothing_heard}
 use Rattle.mount_model.specs.declared.request.Line.{Line}
 use Rattle.mount_model.specs.declared.standing.Phase.{Phase}
 use Rattle.mount_model.specs.declared.standing.Phase.TheVariants.{Begun, Replied}
@@ -48,19 +49,19 @@ module _ (n : ℕ) (lines : List Standing) (followers : List (Option ℕ)) (numb
   pub numbers_above : AreAbove 0 numbers
   numbers_above = subst (AreAbove 0) (sym table.may_start) (startable_above [] 0 lines (rising_lines 0 lines table.rising))
 
-  pub hear_table : (answer : Brief) → IsTable (change_line n (heard answer) lines) followers numbers room first
-  hear_table answer = record {
-    rising = subst (AreRising 0) (sym (change_script n (heard answer) lines)) table.rising;
-    one_each = hear_one_each n answer [] lines table.one_each;
-    follow = table.follow ∙ ap followers_of (sym (change_script n (heard answer) lines));
-    may_start = table.may_start ∙ sym (hear_numbers n answer [] lines);
-    has_room = rw (change_length n (heard answer) lines) table.has_room;
-    from_open = table.from_open ∙ sym (hear_open n answer lines);
+  pub hear_table : (told : Told) → IsTable (change_line n (heard told) lines) followers numbers room first
+  hear_table told = record {
+    rising = subst (AreRising 0) (sym (change_script n (heard told) lines)) table.rising;
+    one_each = hear_one_each n told [] lines table.one_each;
+    follow = table.follow ∙ ap followers_of (sym (change_script n (heard told) lines));
+    may_start = table.may_start ∙ sym (hear_numbers n told [] lines);
+    has_room = rw (change_length n (heard told) lines) table.has_room;
+    from_open = table.from_open ∙ sym (hear_open n told lines);
   }
 
-  pub begin_table : (at : ℕ) → slice_get numbers at ≡ Some n → IsTable (change_line n (λ phase. Begun []) lines) followers (remove numbers at) room first
+  pub begin_table : (at : ℕ) → slice_get numbers at ≡ Some n → IsTable (change_line n (λ phase. Begun nothing_heard) lines) followers (remove numbers at) room first
   begin_table at stands =
-      let f : Phase → Phase = λ phase. Begun [] in
+      let f : Phase → Phase = λ phase. Begun nothing_heard in
       let rising = rising_lines 0 lines table.rising in
       let among = subst (λ xs. is_among n xs ≡ true) table.may_start (among_at n numbers at stands) in
       record {
@@ -94,8 +95,8 @@ module _ (n : ℕ) (lines : List Standing) (followers : List (Option ℕ)) (numb
 
   -- the tables that the code leaves
 
-  pub begin_kept : (i at : ℕ) (old new : Standing) (numbers' : List ℕ) (room' : ℕ) → StandsAt n lines i → old ≡ get_or lines i old → new.line ≡ old.line → new.phase ≡ Begun [] → slice_get numbers at ≡ Some n → numbers' ≡ remove numbers at → room' ≡ room → IsTable (set lines i new) followers numbers' room' first
-  begin_kept i at old new numbers' room' place read line phase stands removed same = rw (set_phase n (λ phase. Begun []) lines i old new table.rising place read line phase, removed, same) (begin_table at stands)
+  pub begin_kept : (i at : ℕ) (old new : Standing) (numbers' : List ℕ) (room' : ℕ) → StandsAt n lines i → old ≡ get_or lines i old → new.line ≡ old.line → new.phase ≡ Begun nothing_heard → slice_get numbers at ≡ Some n → numbers' ≡ remove numbers at → room' ≡ room → IsTable (set lines i new) followers numbers' room' first
+  begin_kept i at old new numbers' room' place read line phase stands removed same = rw (set_phase n (λ phase. Begun nothing_heard) lines i old new table.rising place read line phase, removed, same) (begin_table at stands)
 
   pub reply_kept : (i : ℕ) (old new : Standing) (numbers' : List ℕ) (room' first' : ℕ) → StandsAt n lines i → HasBegun n lines → old ≡ get_or lines i old → new.line ≡ old.line → new.phase ≡ Replied → numbers' ≡ with_follower (next_of n (script_of lines)) numbers → room' ≡ room → first' ≡ open_place (set lines i new) → IsTable (set lines i new) followers numbers' room' first'
   reply_kept i old new numbers' room' first' place begun read line phase put same moved =

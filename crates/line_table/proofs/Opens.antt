@@ -3,7 +3,9 @@ use Rattle.std.proofs.Common.{◌≡◌, ℕ, zero, suc, ◌+◌, ◌<◌, ◌�
 use Rattle.std.specs.List.{AllByRecursion}
 use Rattle.std.proofs.lemmas.Bool.{eq-eqb, eqb-true}
 use Rattle.std.proofs.lemmas.Bool.Decides.{nat_tests, eqb_tells}
-use Rattle.bucket_model.specs.declared.answer.Brief.{Brief}
+use Rattle.mount_model.specs.declared.standing.Heard.{Heard}
+use Rattle.mount_model.specs.declared.standing.Told.{Told}
+use Rattle.mount_model.specs.Heard.{nothing_heard}
 use Rattle.mount_model.specs.declared.request.Request.{Request}
 use Rattle.mount_model.specs.declared.request.Request.TheVariants as request
 use Rattle.mount_model.specs.declared.request.Reply.TheVariants as reply
@@ -19,12 +21,12 @@ use Rattle.line_table.proofs.Starts.{number_of, rephrase, change_cases, starts_h
 
 abbrev pub open_head : Phase → ℕ → ℕ
 open_head Waiting m = 0
-open_head (Begun answers) m = 0
+open_head (Begun before) m = 0
 open_head Replied m = m + 1
 
 head_is : (line : Line) (p : Phase) (lines : List Standing) → open_place (record { line = line; phase = p } ∷ lines) ≡ open_head p (open_place lines)
 head_is line Waiting lines = refl
-head_is line (Begun answers) lines = refl
+head_is line (Begun before) lines = refl
 head_is line Replied lines = refl
 
 open_step : (s : Standing) (lines : List Standing) → open_place (s ∷ lines) ≡ open_head s.phase (open_place lines)
@@ -34,7 +36,7 @@ open_step s lines = head_is s.line s.phase lines
 
 head_le : (p : Phase) (m k : ℕ) → m ≤ k → open_head p m ≤ k + 1
 head_le Waiting m k le = omega arith
-head_le (Begun answers) m k le = omega arith
+head_le (Begun before) m k le = omega arith
 head_le Replied m k le = omega arith
 
 pub open_le : (lines : List Standing) → open_place lines ≤ length lines
@@ -43,7 +45,7 @@ open_le (s ∷ lines) = rw (open_step s lines) (omega (arith, head_le s.phase (o
 
 head_past : (p : Phase) (m i : ℕ) → suc i ≤ open_head p m → (p ≡ Replied) × (i ≤ m)
 head_past Waiting m i le = absurd (omega arith)
-head_past (Begun answers) m i le = absurd (omega arith)
+head_past (Begun before) m i le = absurd (omega arith)
 head_past Replied m i le = (refl, omega arith)
 
 pub open_more : (lines : List Standing) (i : ℕ) (s : Standing) → i ≤ open_place lines → slice_get lines i ≡ Some s → s.phase ≡ Replied → i + 1 ≤ open_place lines
@@ -57,7 +59,7 @@ open_more (x ∷ lines) (suc i) s le stands replied =
 
 not_open : (p : Phase) (m : ℕ) → (p ≡ Replied → ⊥) → open_head p m ≡ 0
 not_open Waiting m no_way = refl
-not_open (Begun answers) m no_way = refl
+not_open (Begun before) m no_way = refl
 not_open Replied m no_way = absurd (no_way refl)
 
 pub open_here : (lines : List Standing) (i : ℕ) (s : Standing) → i ≤ open_place lines → slice_get lines i ≡ Some s → (s.phase ≡ Replied → ⊥) → i ≡ open_place lines
@@ -71,38 +73,38 @@ open_here (x ∷ lines) (suc i) s le stands open_ =
 
 -- after a change
 
-pub begin_open : (n above : ℕ) (busy : List ℕ) (lines : List Standing) → RisingBy number_of above lines → is_among n (startable_from busy lines) ≡ true → open_place (change_line n (λ phase. Begun []) lines) ≡ open_place lines
+pub begin_open : (n above : ℕ) (busy : List ℕ) (lines : List Standing) → RisingBy number_of above lines → is_among n (startable_from busy lines) ≡ true → open_place (change_line n (λ phase. Begun nothing_heard) lines) ≡ open_place lines
 begin_open n above busy [] rising among = refl
 begin_open n above busy (s ∷ lines) rising among =
     let below = begin_open n s.line.number (busy_after s.line.actor s.phase busy) lines rising.1 in
     elim (eqb_tells s.line.number n) [
       | inl same ↦
           let waits = (starts_here busy s lines rising.1 (rw (← same.1) at among)).waits in
-          ap open_place (change_here number_of n (rephrase (λ phase. Begun [])) s lines same.1 rising.1) ∙ sym (open_step s lines ∙ (rw waits))
+          ap open_place (change_here number_of n (rephrase (λ phase. Begun nothing_heard)) s lines same.1 rising.1) ∙ sym (open_step s lines ∙ (rw waits))
       | inr differs ↦
-          ap open_place (change_there number_of n (rephrase (λ phase. Begun [])) s lines differs.0)
-          ∙ open_step s (change_line n (λ phase. Begun []) lines)
+          ap open_place (change_there number_of n (rephrase (λ phase. Begun nothing_heard)) s lines differs.0)
+          ∙ open_step s (change_line n (λ phase. Begun nothing_heard) lines)
           ∙ ap (open_head s.phase) (below (among_below n busy s lines differs.0 among))
           ∙ sym (open_step s lines)
     ]
 
-head_hears : (answer : Brief) (p : Phase) (m : ℕ) → open_head (heard answer p) m ≡ open_head p m
-head_hears answer Waiting m = refl
-head_hears answer (Begun answers) m = refl
-head_hears answer Replied m = refl
+head_hears : (told : Told) (p : Phase) (m : ℕ) → open_head (heard told p) m ≡ open_head p m
+head_hears told Waiting m = refl
+head_hears told (Begun before) m = refl
+head_hears told Replied m = refl
 
-pub hear_open : (n : ℕ) (answer : Brief) (lines : List Standing) → open_place (change_line n (heard answer) lines) ≡ open_place lines
-hear_open n answer [] = refl
-hear_open n answer (s ∷ lines) =
-    let below = hear_open n answer lines in
-    let changed = change_line n (heard answer) lines in
-    change_cases (λ xs. open_place xs ≡ open_place (s ∷ lines)) n (heard answer) s lines
-    (open_step (rephrase (heard answer) s) changed ∙ head_hears answer s.phase (open_place changed) ∙ (rw below) ∙ sym (open_step s lines))
+pub hear_open : (n : ℕ) (told : Told) (lines : List Standing) → open_place (change_line n (heard told) lines) ≡ open_place lines
+hear_open n told [] = refl
+hear_open n told (s ∷ lines) =
+    let below = hear_open n told lines in
+    let changed = change_line n (heard told) lines in
+    change_cases (λ xs. open_place xs ≡ open_place (s ∷ lines)) n (heard told) s lines
+    (open_step (rephrase (heard told) s) changed ∙ head_hears told s.phase (open_place changed) ∙ (rw below) ∙ sym (open_step s lines))
     (open_step s changed ∙ (rw below) ∙ sym (open_step s lines))
 
 head_more : (p : Phase) (m k : ℕ) → m ≤ k → (open_head p m ≤ k + 1) × (open_head p m ≤ open_head p k)
 head_more Waiting m k le = (omega arith, omega arith)
-head_more (Begun answers) m k le = (omega arith, omega arith)
+head_more (Begun before) m k le = (omega arith, omega arith)
 head_more Replied m k le = (omega arith, omega arith)
 
 -- a reply moves it on
@@ -119,7 +121,7 @@ reply_open n (s ∷ lines) =
 
 all_head : (p : Phase) (m k : ℕ) → m ≤ k → open_head p m ≡ k + 1 → (p ≡ Replied) × (m ≡ k)
 all_head Waiting m k le is = absurd (omega arith)
-all_head (Begun answers) m k le is = absurd (omega arith)
+all_head (Begun before) m k le is = absurd (omega arith)
 all_head Replied m k le is = (refl, omega arith)
 
 pub all_replied-from_open : (lines : List Standing) → open_place lines ≡ length lines → AllByRecursion (λ s. s.phase ≡ Replied) lines
@@ -142,7 +144,7 @@ due_replied line p lines replied = rw replied
 
 due_past : (line : Line) (p : Phase) (lines : List Standing) → (slice_get lines (open_place lines) ≡ None → due_awaits lines ≡ []) → slice_get (record { line = line; phase = p } ∷ lines) (open_place (record { line = line; phase = p } ∷ lines)) ≡ None → due_awaits (record { line = line; phase = p } ∷ lines) ≡ []
 due_past line Waiting lines below none = refl
-due_past line (Begun answers) lines below none = absurd (cc)
+due_past line (Begun before) lines below none = absurd (cc)
 due_past line Replied lines below none = below (rw add-one at none)
 
 -- nothing where all lines have their replies
@@ -160,41 +162,41 @@ DueAt first lines = MatchOption first (due_awaits lines ≡ []) (λ n. IsDue n l
 
 due_here : (number actor : ℕ) (request : Request) (p : Phase) (lines : List Standing) → RisingBy number_of number lines → (p ≡ Replied → ⊥) → DueAt (awaited (record { line = record { number = number; actor = actor; request = request }; phase = p })) (record { line = record { number = number; actor = actor; request = request }; phase = p } ∷ lines)
 due_here number actor request Waiting lines rising open_ = refl
-due_here number actor (request.Put key content) (Begun answers) lines rising open_ = refl
-due_here number actor request.Await (Begun answers) lines rising open_ =
-    let s : Standing = record { line = record { number = number; actor = actor; request = request.Await }; phase = Begun answers } in
+due_here number actor (request.Put key content) (Begun before) lines rising open_ = refl
+due_here number actor request.Await (Begun before) lines rising open_ =
+    let s : Standing = record { line = record { number = number; actor = actor; request = request.Await }; phase = Begun before } in
     record {
       due = ap (λ xs. record { line = number; reply = reply.Success } ∷ due_awaits xs) (sym (change_here number_of number (rephrase (λ phase. Replied)) s lines refl rising));
-      has_begun = record { standing = s; stands = rw (eq-eqb number number refl) refl; answers = answers; phase = refl };
+      has_begun = record { standing = s; stands = rw (eq-eqb number number refl) refl; heard = before; phase = refl };
     }
-due_here number actor (request.Stat path) (Begun answers) lines rising open_ = refl
-due_here number actor (request.OpenRead name path) (Begun answers) lines rising open_ = refl
-due_here number actor (request.Read name offset count) (Begun answers) lines rising open_ = refl
-due_here number actor (request.Close name) (Begun answers) lines rising open_ = refl
-due_here number actor (request.Delete key) (Begun answers) lines rising open_ = refl
+due_here number actor (request.Stat path) (Begun before) lines rising open_ = refl
+due_here number actor (request.OpenRead name path) (Begun before) lines rising open_ = refl
+due_here number actor (request.Read name offset count) (Begun before) lines rising open_ = refl
+due_here number actor (request.Close name) (Begun before) lines rising open_ = refl
+due_here number actor (request.Delete key) (Begun before) lines rising open_ = refl
 due_here number actor request Replied lines rising open_ = absurd (open_ refl)
 
 awaited_is : (s : Standing) (n : ℕ) → awaited s ≡ Some n → s.line.number ≡ n
 awaited_is s n is = by_phase s.phase is
   where
-    of_await : (answers : List Brief) (q : Request) → awaited (record { line = record { number = s.line.number; actor = s.line.actor; request = q }; phase = Begun answers }) ≡ Some n → s.line.number ≡ n
-    of_await answers (request.Put key content) is = absurd (cc)
-    of_await answers request.Await is = cc
-    of_await answers (request.Stat path) is = absurd (cc)
-    of_await answers (request.OpenRead name path) is = absurd (cc)
-    of_await answers (request.Read name offset count) is = absurd (cc)
-    of_await answers (request.Close name) is = absurd (cc)
-    of_await answers (request.Delete key) is = absurd (cc)
+    of_await : (before : Heard) (q : Request) → awaited (record { line = record { number = s.line.number; actor = s.line.actor; request = q }; phase = Begun before }) ≡ Some n → s.line.number ≡ n
+    of_await before (request.Put key content) is = absurd (cc)
+    of_await before request.Await is = cc
+    of_await before (request.Stat path) is = absurd (cc)
+    of_await before (request.OpenRead name path) is = absurd (cc)
+    of_await before (request.Read name offset count) is = absurd (cc)
+    of_await before (request.Close name) is = absurd (cc)
+    of_await before (request.Delete key) is = absurd (cc)
 
     by_phase : (p : Phase) → awaited (record { line = s.line; phase = p }) ≡ Some n → s.line.number ≡ n
     by_phase Waiting is = absurd (cc)
-    by_phase (Begun answers) is = of_await answers s.line.request is
+    by_phase (Begun before) is = of_await before s.line.request is
     by_phase Replied is = absurd (cc)
 
 below_due : (n : ℕ) (x : Standing) (lines : List Standing) → x.phase ≡ Replied → (x.line.number == n) ≡ false → IsDue n lines → IsDue n (x ∷ lines)
 below_due n x lines replied differs is = record {
   due = due_replied x.line x.phase lines replied ∙ is.due ∙ ap (λ xs. record { line = n; reply = reply.Success } ∷ xs) (sym (ap due_awaits (change_there number_of n (rephrase (λ phase. Replied)) x lines differs) ∙ due_replied x.line x.phase (change_line n (λ phase. Replied) lines) replied));
-  has_begun = record { standing = is.has_begun.standing; stands = rw differs is.has_begun.stands; answers = is.has_begun.answers; phase = is.has_begun.phase };
+  has_begun = record { standing = is.has_begun.standing; stands = rw differs is.has_begun.stands; heard = is.has_begun.heard; phase = is.has_begun.phase };
 }
 
 due_below : (first : Option ℕ) (x : Standing) (lines : List Standing) → x.phase ≡ Replied → ((n : ℕ) → first ≡ Some n → (x.line.number == n) ≡ false) → DueAt first lines → DueAt first (x ∷ lines)
@@ -219,7 +221,7 @@ due_first above (x ∷ lines) s rising stands = by_phase x.phase refl (λ below.
 
     by_phase : (p : Phase) → x.phase ≡ p → (slice_get lines (open_place lines) ≡ Some s → DueAt (awaited s) lines) → DueAt (awaited s) (x ∷ lines)
     by_phase Waiting is below = here (λ replied. absurd (cc (is, replied)))
-    by_phase (Begun answers) is below = here (λ replied. absurd (cc (is, replied)))
+    by_phase (Begun before) is below = here (λ replied. absurd (cc (is, replied)))
     by_phase Replied is below = there is (rw (open_step x lines, is, add-one) at stands) below
 
 -- as a pair

@@ -1,6 +1,6 @@
 -- What a table of lines keeps beside the lines: who follows whom, which may start, and the first without a reply.
 use Rattle.std.specs.Prelude.{◌≡◌, ℕ, ◌+◌, ◌<◌, ◌≤◌, List, [], ◌∷◌, map, true, ◌==◌, if◌then◌else◌, Option, Some, None, length, nat_lt}
-use Rattle.bucket_model.specs.declared.answer.Brief.{Brief}
+use Rattle.mount_model.specs.declared.standing.Heard.{Heard}
 use Rattle.mount_model.specs.declared.request.Request.{Request}
 use Rattle.mount_model.specs.declared.request.Request.TheVariants as request
 use Rattle.mount_model.specs.declared.request.Line.{Line}
@@ -15,8 +15,8 @@ use Rattle.std.specs.Prelude.{slice_get}
 pub record HasBegun (number : ℕ) (lines : List Standing) : Type 0 where
   pub standing : Standing
   pub stands : line_at number lines ≡ Some standing
-  pub answers : List Brief
-  pub phase : standing.phase ≡ Begun answers
+  pub heard : Heard
+  pub phase : standing.phase ≡ Begun heard
 
 -- the script whose lines these are
 abbrev pub script_of : List Standing → List Line
@@ -62,7 +62,7 @@ with_follower (Some n) numbers = put_in n numbers
 -- the actors that are busy below a line: each with a line above that has no reply
 abbrev pub busy_after : ℕ → Phase → List ℕ → List ℕ
 busy_after actor Waiting busy = actor ∷ busy
-busy_after actor (Begun answers) busy = actor ∷ busy
+busy_after actor (Begun heard) busy = actor ∷ busy
 busy_after actor Replied busy = busy
 
 -- each actor does one thing at a time: a line of a busy actor waits
@@ -77,7 +77,7 @@ open_place (s ∷ lines) = by_phase s.phase (open_place lines)
   where
     by_phase : Phase → ℕ → ℕ
     by_phase Waiting more = 0
-    by_phase (Begun answers) more = 0
+    by_phase (Begun heard) more = 0
     by_phase Replied more = more + 1
 
 -- the number of a line that is an await and has begun
@@ -86,7 +86,7 @@ awaited s = by_phase s.phase
   where
     by_phase : Phase → Option ℕ
     by_phase Waiting = None
-    by_phase (Begun answers) = by_request s.line.request
+    by_phase (Begun heard) = by_request s.line.request
       where
         by_request : Request → Option ℕ
         by_request (request.Put key content) = None

@@ -2,15 +2,14 @@ ghost use Rattle.std.specs.Prelude.{◌≡◌, ◌↔◌, List, [], ◌∷◌, m
 ghost use Rattle.std.specs.List.{AllByRecursion};
 ghost use Rattle.mount_model.specs.declared.request.Reply.TheVariants.{Success};
 ghost use Rattle.mount_model.specs.declared.standing.Phase.TheVariants.{Waiting, Begun, Replied};
+ghost use Rattle.mount_model.specs.Heard.{nothing_heard};
 ghost use Rattle.mount_model.specs.State.{line_at, change_line, heard};
 ghost use Rattle.mount_model.specs.Run.{is_among, startable, due_awaits, AreRising};
 ghost use Rattle.line_table.specs.Table.{HasBegun};
 
 use crate::places::{awaited_number, hear_one, open_from, place_among, place_of, put_follower};
 use crate::prepare::{find_followers, find_startable, wait_all};
-use bucket_model::Brief;
-use mount_model::{Phase, Script, Standing};
-use mp_types::Items;
+use mount_model::{Heard, Phase, Script, Standing, Told};
 use std::alloc::{AllocError, Global};
 use std::marker::Model;
 
@@ -94,7 +93,7 @@ impl Lines {
     /// The line begins. Takes no memory.
     pub fn begin(&mut self, alloc: Global, number: u32)
         requires { is_among number (startable self.old) ≡ true }
-        ensures { self.new ≡ change_line number (λ phase. Begun []) self.old }
+        ensures { self.new ≡ change_line number (λ phase. Begun nothing_heard) self.old }
     {
         let Ok(at) = place_among(self.startable.as_slice(), number) else {
             unreachable!()
@@ -103,16 +102,16 @@ impl Lines {
             unreachable!()
         };
         self.startable.remove(at);
-        self.standings[i].phase = Phase::Begun(Items::new(alloc));
+        self.standings[i].phase = Phase::Begun(Heard::new(alloc));
     }
 
     /// One more answer for the line, if it has begun and has no reply. A refusal changes nothing.
-    pub fn hear(&mut self, number: u32, answer: Brief) -> Result<(), AllocError>
-        ensures ok { OnOk result (self.new ≡ change_line number (heard answer) self.old) }
+    pub fn hear(&mut self, number: u32, told: Told) -> Result<(), AllocError>
+        ensures ok { OnOk result (self.new ≡ change_line number (heard told) self.old) }
         ensures err { OnErr result (self.new ≡ self.old) }
     {
         match place_of(self.standings.as_slice(), number) {
-            Some(i) => hear_one(&mut self.standings[i], answer),
+            Some(i) => hear_one(&mut self.standings[i], told),
             None => Ok(()),
         }
     }

@@ -4,8 +4,7 @@ ghost use Rattle.mount_model.specs.State.{line_at, heard};
 ghost use Rattle.mount_model.specs.Run.{is_among, AreRising};
 ghost use Rattle.line_table.specs.Table.{script_of, StandsAt, AreAbove, put_in, with_follower, open_place, awaited};
 
-use bucket_model::Brief;
-use mount_model::{Phase, Request, Standing};
+use mount_model::{Phase, Request, Standing, Told};
 use std::alloc::AllocError;
 
 // The place of the line of this number.
@@ -72,16 +71,13 @@ pub fn open_from(lines: &[Standing], from: usize) -> usize
 }
 
 // One more answer for the line.
-pub fn hear_one(standing: &mut Standing, answer: Brief) -> Result<(), AllocError>
+pub fn hear_one(standing: &mut Standing, told: Told) -> Result<(), AllocError>
     ensures line { standing.new.line ≡ standing.old.line }
-    ensures ok { OnOk result (standing.new.phase ≡ heard answer standing.old.phase) }
+    ensures ok { OnOk result (standing.new.phase ≡ heard told standing.old.phase) }
     ensures err { OnErr result (standing.new.phase ≡ standing.old.phase) }
 {
     match &mut standing.phase {
-        Phase::Begun(answers) => match answers.push(answer) {
-            Ok(()) => Ok(()),
-            Err(_) => Err(AllocError),
-        },
+        Phase::Begun(heard) => heard.hear(told),
         _ => Ok(()),
     }
 }

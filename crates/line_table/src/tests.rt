@@ -3,8 +3,9 @@ ghost use Rattle.mount_model.specs.Run.{AreRising};
 
 use crate::Lines;
 use bucket_model::Brief;
-use mount_model::{Line, Phase, Request, Script};
-use mp_types::{Items, Text};
+use mount_model::{Line, Phase, Request, Script, Told};
+use mp_rules::{Fact, Known, Question};
+use mp_types::{Items, Key, Text};
 use std::alloc::{AllocError, Global};
 use std::test::Fail;
 
@@ -64,10 +65,10 @@ fn first_two(lines: &Lines) -> (Option<u32>, Option<u32>) {
     (lines.startable_at(0), lines.startable_at(1))
 }
 
-// How many answers a line has got: none at all while it waits or has its reply.
-fn heard(lines: &Lines, number: u32) -> Option<usize> {
+// How many facts and other answers a line has got: none at all while it waits or has its reply.
+fn heard(lines: &Lines, number: u32) -> Option<(usize, usize)> {
     match &lines.standing(number)?.phase {
-        Phase::Begun(answers) => Some(answers.len()),
+        Phase::Begun(heard) => Some((heard.facts.as_slice().len(), heard.answers.len())),
         _ => None,
     }
 }
@@ -117,19 +118,28 @@ fn two_awaits_are_due_one_behind_the_other(rt: HostRuntime) -> Result<(), Fail> 
     Ok(())
 }
 
+// Nothing lies below `a`.
+fn no_directory(alloc: Global) -> Result<Told, Fail> {
+    Ok(Told::Fact(Known {
+        question: Question::Probe(Key::parse(alloc, "a")?),
+        fact: Fact::No,
+    }))
+}
+
 #[test]
 fn only_a_line_that_has_begun_hears(rt: HostRuntime) -> Result<(), Fail> {
     let alloc = rt.alloc();
     let mut lines = Lines::new(alloc, script(alloc)?)?;
-    lines.hear(2, Brief::No)?;
-    lines.hear(5, Brief::No)?;
+    lines.hear(2, Told::Answer(Brief::Gone))?;
+    lines.hear(5, Told::Answer(Brief::Gone))?;
     assert_eq!(rt; (heard(&lines, 2), heard(&lines, 5)), (None, None));
     begin(&mut lines, alloc, 2)?;
-    lines.hear(2, Brief::No)?;
-    lines.hear(2, Brief::Missing)?;
-    assert_eq!(rt; (heard(&lines, 2), heard(&lines, 3)), (Some(2), None));
+    lines.hear(2, no_directory(alloc)?)?;
+    lines.hear(2, Told::Answer(Brief::Fault))?;
+    lines.hear(2, no_directory(alloc)?)?;
+    assert_eq!(rt; (heard(&lines, 2), heard(&lines, 3)), (Some((2, 1)), None));
     reply(&mut lines, 2)?;
-    lines.hear(2, Brief::No)?;
+    lines.hear(2, Told::Answer(Brief::Gone))?;
     assert_eq!(rt; heard(&lines, 2), None);
     Ok(())
 }

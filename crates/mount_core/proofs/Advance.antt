@@ -4,7 +4,6 @@ use Rattle.std.specs.List.{AllByRecursion}
 use Rattle.std.proofs.lemmas.List.Sums.{fold_push, fold-append}
 use Rattle.std.proofs.lemmas.List.{length-map}
 use Rattle.bucket_model.proofs.Along.{Along-push}
-use Rattle.bucket_model.specs.declared.answer.Brief.{Brief}
 use Rattle.mount_model.specs.declared.request.Line.{Line}
 use Rattle.mount_model.specs.declared.event.Event.{Event}
 use Rattle.mount_model.specs.declared.event.Ask.{Ask}
@@ -13,6 +12,8 @@ use Rattle.mount_model.specs.declared.event.Answered.{Answered}
 use Rattle.mount_model.specs.declared.request.Reply.{Reply}
 use Rattle.mount_model.specs.declared.request.Reply.TheVariants as reply
 use Rattle.mount_model.specs.declared.standing.Standing.{Standing}
+use Rattle.mount_model.specs.declared.standing.Told.{Told}
+use Rattle.mount_model.specs.Heard.{question_of}
 use Rattle.mount_model.specs.Step.{Step, step_of, change_last}
 use Rattle.mount_model.specs.State.{ClientState, Job, JobPhase, Ready, Out, Gone, opening, after, state_after, lines_at, line_of, jobs_at, jobs_asked, time_after, with_replies, with_answered, with_effect, handles_after, whole_call, job_of, change_line, next_at}
 use Rattle.mount_model.specs.Handles.{Opened}
@@ -35,8 +36,8 @@ held_of-append [] ys = refl
 held_of-append (job ∷ xs) ys = by_phase job.phase refl (held_of-append xs ys)
   where
     by_phase : (p : JobPhase) → job.phase ≡ p → held_of (xs ++ ys) ≡ held_of xs ++ held_of ys → held_of (job ∷ (xs ++ ys)) ≡ held_of (job ∷ xs) ++ held_of ys
-    by_phase Ready e below = rw e (ap (λ t. record { number = job.number; line = job.line; call = Some job.call } ∷ t) below)
-    by_phase (Out from) e below = rw e (ap (λ t. record { number = job.number; line = job.line; call = None } ∷ t) below)
+    by_phase Ready e below = rw e (ap (λ t. record { number = job.number; line = job.line; call = Some job.call; question = question_of job.call } ∷ t) below)
+    by_phase (Out from) e below = rw e (ap (λ t. record { number = job.number; line = job.line; call = None; question = question_of job.call } ∷ t) below)
     by_phase Gone e below = rw e below
 
 -- jobs that are asked for are held, with their calls
@@ -72,7 +73,7 @@ pub record TurnDone (state : ClientState) (event : Event) (bytes : List ℕ) (be
   pub keeps : Keeps new.handles (handles_after state.handles (lines_at state.lines state.jobs event) step.replies)
   pub gives : AllByRecursion (GivesOnly bytes) step.replies
 
-pub turn_done : (state : ClientState) (event : Event) (n : ℕ) (last : Option Brief) (bytes : List ℕ) (before : List Step) (begun turned new : Work) →
+pub turn_done : (state : ClientState) (event : Event) (n : ℕ) (last : Option Told) (bytes : List ℕ) (before : List Step) (begun turned new : Work) →
     IsAlive state →
     begun.record.steps ≡ before ++ step_of event ∷ [] →
     line_of state.jobs event ≡ Some n →

@@ -1,6 +1,7 @@
 -- Each event of a core, from the parts before it to the parts behind it.
 use Rattle.std.proofs.Common.{◌≡◌, ◌≢◌, ℕ, ◌+◌, ◌<◌, true, List, [], ◌∷◌, ◌++◌, map, length, max, Option, Some, None, refl, sym, ap, ◌∙◌, subst, inr, arith, append-nil, add-zero, ◌↔◌}
 use Rattle.std.specs.List.{AllByRecursion}
+use Rattle.mp_rules.specs.declared.facts.Question.{Question}
 use Rattle.bucket_model.specs.declared.call.Call.{Call}
 use Rattle.bucket_model.specs.declared.answer.Answer.{Answer}
 use Rattle.bucket_model.specs.declared.answer.Answer.TheVariants as full
@@ -13,8 +14,11 @@ use Rattle.mount_model.specs.declared.request.Request.{Request}
 use Rattle.mount_model.specs.declared.request.Request.TheVariants as request
 use Rattle.mount_model.specs.declared.event.Event.{Event}
 use Rattle.mount_model.specs.declared.event.Event.TheVariants.{Begin, Take, Done}
+use Rattle.mount_model.specs.declared.standing.Heard.{Heard}
 use Rattle.mount_model.specs.declared.standing.Phase.TheVariants.{Waiting, Begun, Replied}
 use Rattle.mount_model.specs.declared.standing.Standing.{Standing}
+use Rattle.mount_model.specs.declared.standing.Told.{Told}
+use Rattle.mount_model.specs.Heard.{nothing_heard, with_told, question_of, told_by}
 use Rattle.mount_model.specs.Step.{Step, step_of, MayAsk, HasStep}
 use Rattle.mount_model.specs.State.{ClientState, Job, Out, Gone, opening, after, state_after, line_at, change_line, heard, lines_at, line_of, jobs_at, job_at, change_job, hears, time_after, whole_call, next_at}
 use Rattle.mount_model.specs.Conversation.{Asks, Gives, Waits, next_of}
@@ -30,7 +34,7 @@ use Rattle.run_laws.proofs.Served.{served}
 use Rattle.run_laws.proofs.Lines.{lines-replies, lines-event, lines-opening, Rises-lines}
 use Rattle.run_laws.proofs.Orderly.{startable-found}
 use Rattle.run_laws.proofs.Conversation.{only_await_waits}
-use Rattle.run_laws.proofs.Faithful.{job_makes_call, calls_made}
+use Rattle.run_laws.proofs.Faithful.{faithful, job_makes_call, calls_made}
 use Rattle.run_laws.proofs.Jobs.{length-change_job}
 use Rattle.mount_core.specs.declared.handles.Handles.{Handles}
 use Rattle.mount_core.specs.declared.work.Work.{Work}
@@ -40,7 +44,7 @@ use Rattle.mount_core.specs.Handles.{Keeps}
 use Rattle.mount_core.specs.Turn.{heard_last, with_turn, MayGoOn, GoesOn, Answers}
 use Rattle.mount_core.specs.Core.{state_of, Advances, IsCore, core_of}
 use Rattle.mount_core.proofs.Changes.{line_at-change, change_line-same, whole_call-change}
-use Rattle.mount_core.proofs.Dues.{next_at-begun}
+use Rattle.mount_core.proofs.Dues.{next_at-begun, next_at-heard}
 use Rattle.mount_core.proofs.Questions.{gives_none, gives_brought}
 use Rattle.mount_core.proofs.Steps.{HasStep-asking, HasStep-change_last}
 use Rattle.mount_core.proofs.Advance.{TurnDone, turn_done, core_goes_on, core_advances}
@@ -50,7 +54,7 @@ pub alive_core : (work : Work) → IsCore work (core_of work) → laws.IsAlive (
 alive_core work core = alive (core_of work).script (core_of work).steps core.rising core.so_far
 
 falls : (work : Work) → IsCore work (core_of work) → (step : Step) → IsLegalStep (state_of (core_of work)) step → work_left (after (state_of (core_of work)) step) < work_left (state_of (core_of work))
-falls work core step legal = work_falls (state_of (core_of work)) step (alive_core work core) legal
+falls work core step legal = work_falls (state_of (core_of work)) step (alive_core work core) (faithful (core_of work).script (core_of work).steps core.rising core.so_far) legal
 
 numbered : (n : ℕ) (jobs : List Job) → laws.AreNumbered n jobs → table.AreNumbered n jobs
 numbered n [] h = tt
@@ -84,7 +88,7 @@ pub begin_leaves : (old begun turned new : Work) (n time : ℕ) → IsCore old (
     is_among n (startable (state_of (core_of old)).lines) ≡ true →
     begun.time ≡ max old.time time →
     begun.record.steps ≡ old.record.steps ++ step_of (Begin n (max old.time time)) ∷ [] →
-    begun.lines ≡ change_line n (λ phase. Begun []) old.lines →
+    begun.lines ≡ change_line n (λ phase. Begun nothing_heard) old.lines →
     begun.jobs ≡ old.jobs →
     begun.handles ≡ old.handles →
     (bytes : List ℕ) →
@@ -98,13 +102,13 @@ begin_leaves old begun turned new n time core may time_is steps lines jobs same 
     let t : max old.time time ≡ max s.time time = ap (λ x. max x time) core.time in
     let event : Event = Begin n (max s.time time) in
     let all_lines : lines_at s.lines s.jobs event ≡ change_line n (heard_last None) begun.lines =
-    ap (change_line n (λ phase. Begun [])) (sym core.lines) ∙ (sym lines ∙ sym (change_line-same n begun.lines)) in
+    ap (change_line n (λ phase. Begun nothing_heard)) (sym core.lines) ∙ (sym lines ∙ sym (change_line-same n begun.lines)) in
     let done = turn_done s event n None [] old.record.steps begun turned new
     (alive_core old core)
     (steps ∙ ap (λ x. old.record.steps ++ step_of (Begin n x) ∷ []) t)
     refl
     all_lines
-    (λ a. ap (λ l. whole_call l n a) lines ∙ (whole_call-change n (λ phase. Begun []) old.lines n a ∙ ap (λ l. whole_call l n a) core.lines))
+    (λ a. ap (λ l. whole_call l n a) lines ∙ (whole_call-change n (λ phase. Begun nothing_heard) old.lines n a ∙ ap (λ l. whole_call l n a) core.lines))
     (ap (λ j. j.count) jobs ∙ core.count)
     ((omega arith), may)
     (subst (λ (b : List ℕ). GoesOn n None b s.handles begun turned) empty (goes s.handles (subst (λ (h : Handles). Keeps h s.handles) (sym same) core.handles)))
@@ -157,8 +161,8 @@ taken_call old n called core may calls j stands =
     let job = ready_job n 1 s.jobs (numbered 1 s.jobs (alive_core old core).numbered) may in
     let same : Some job.job ≡ Some j = sym job.stands ∙ stands in
     let is : job.job ≡ j = cc in
-    let held : table.held_at n old.jobs.held ≡ Some (record { number = n; line = job.job.line; call = Some job.job.call }) = ap (table.held_at n) core.held ∙ held_at-ready n s.jobs job.job job.stands job.is_ready in
-    let call : Some job.job.call ≡ Some called = calls (record { number = n; line = job.job.line; call = Some job.job.call }) held in
+    let held : table.held_at n old.jobs.held ≡ Some (record { number = n; line = job.job.line; call = Some job.job.call; question = question_of job.job.call }) = ap (table.held_at n) core.held ∙ held_at-ready n s.jobs job.job job.stands job.is_ready in
+    let call : Some job.job.call ≡ Some called = calls (record { number = n; line = job.job.line; call = Some job.job.call; question = question_of job.job.call }) held in
     let call_is : job.job.call ≡ called = cc in
     sym call_is ∙ ap (λ (x : Job). x.call) is
 
@@ -179,16 +183,16 @@ taken_ready old n core may =
 pub done_out : (old : Work) (n position : ℕ) (answer : Brief) → IsCore old (core_of old) → MayDone (state_of (core_of old)) n position answer → table.IsOutIn n old.jobs.held
 done_out old n position answer core may = subst (table.IsOutIn n) (sym core.held) (is_out_in n may.from (state_of (core_of old)).jobs may.job may.stands may.is_out)
 
--- The line of a job whose answer has come: it has begun, and is no await.
-pub record IsHeard (old : Work) (n number : ℕ) (answer : Brief) : Type 0 where
+-- The line of a job whose answer has come, by the question that was asked: it has begun, and is no await.
+pub record IsHeard (old : Work) (n number : ℕ) (question : Option Question) (answer : Brief) : Type 0 where
   pub begun : HasBegun number old.lines
   pub whose : line_of (state_of (core_of old)).jobs (Done n 0 answer) ≡ Some number
-  pub lines : hears (job_at n (state_of (core_of old)).jobs) answer (state_of (core_of old)).lines ≡ change_line number (heard answer) old.lines
-  pub not_idle : (handles : List Opened) → next_at handles number (change_line number (heard answer) old.lines) ≢ Waits
-  pub brought : (handles : List Opened) (count : ℕ) → Keeps old.handles handles → next_at handles number (change_line number (heard answer) old.lines) ≡ Gives count → answer ≡ Bytes count
+  pub lines : hears (job_at n (state_of (core_of old)).jobs) answer (state_of (core_of old)).lines ≡ change_line number (heard (told_by question answer)) old.lines
+  pub not_idle : (handles : List Opened) → next_at handles number (change_line number (heard (told_by question answer)) old.lines) ≢ Waits
+  pub brought : (handles : List Opened) (count : ℕ) → Keeps old.handles handles → next_at handles number (change_line number (heard (told_by question answer)) old.lines) ≡ Gives count → answer ≡ Bytes count
 
-no_wait : (handle : Option Handle) (r : Request) (answers : List Brief) → r ≢ request.Await → next_of handle r answers ≢ Waits
-no_wait handle r answers differs waits = by_request r differs (only_await_waits handle r answers waits)
+no_wait : (handle : Option Handle) (r : Request) (heard : Heard) → r ≢ request.Await → next_of handle r heard ≢ Waits
+no_wait handle r heard differs waits = by_request r differs (only_await_waits handle r heard waits)
   where
     by_request : (r : Request) → r ≢ request.Await → laws.jobs_at_once r ≡ 0 → ⊥
     by_request (request.Put key content) differs none = omega (arith, none)
@@ -199,13 +203,6 @@ no_wait handle r answers differs waits = by_request r differs (only_await_waits 
     by_request (request.Close name) differs none = omega (arith, none)
     by_request (request.Delete key) differs none = omega (arith, none)
 
-next_at-heard : (handles : List Opened) (n : ℕ) (lines : List Standing) (s : Standing) (answers : List Brief) (answer : Brief) → line_at n lines ≡ Some s → s.phase ≡ Begun answers → next_at handles n (change_line n (heard answer) lines) ≡ next_of (handle_of s.line handles) s.line.request (answers ++ answer ∷ [])
-next_at-heard handles n lines s answers answer stands begun =
-    let there : line_at n (change_line n (heard answer) lines) ≡ Some (record { line = s.line; phase = heard answer s.phase }) = line_at-change n (heard answer) lines s stands in
-    let phase : heard answer s.phase ≡ Begun (answers ++ answer ∷ []) = ap (heard answer) begun in
-    let found : line_at n (change_line n (heard answer) lines) ≡ Some (record { line = s.line; phase = Begun (answers ++ answer ∷ []) }) = there ∙ ap (λ p. Some (record { line = s.line; phase = p })) phase in
-    rw found refl
-
 -- two lists that a table keeps have the same handle for a line
 kept-same : (table : Handles) (one two : List Opened) (line : Line) → Keeps table one → Keeps table two → handle_of line one ≡ handle_of line two
 kept-same table one two line first second = by_name (name_in line.request)
@@ -214,28 +211,46 @@ kept-same table one two line first second = by_name (name_in line.request)
     by_name None = refl
     by_name (Some name) = sym (first line.actor name) ∙ second line.actor name
 
-pub is_heard : (old : Work) (n position number : ℕ) (answer : Brief) → IsCore old (core_of old) → MayDone (state_of (core_of old)) n position answer →
-    ((h : table.Held) → table.held_at n old.jobs.held ≡ Some h → number ≡ h.line) → IsHeard old n number answer
-is_heard old n position number answer core may owns =
+begun-asks : (handles : List Opened) (n : ℕ) (lines : List Standing) (s : Standing) (before : Heard) (called : Call) → line_at n lines ≡ Some s → s.phase ≡ Begun before → next_at handles n lines ≡ Asks called → next_of (handle_of s.line handles) s.line.request before ≡ Asks called
+begun-asks handles n lines s before called stands begun makes = sym (next_at-begun handles n lines s before stands begun) ∙ makes
+
+-- behind its last answer a line that is no await doesn't wait
+heard-goes : (handles : List Opened) (n : ℕ) (lines : List Standing) (s : Standing) (before : Heard) (told : Told) → line_at n lines ≡ Some s → s.phase ≡ Begun before → s.line.request ≢ request.Await → next_at handles n (change_line n (heard told) lines) ≢ Waits
+heard-goes handles n lines s before told stands begun differs waits =
+    no_wait (handle_of s.line handles) s.line.request (with_told told before) differs (sym (next_at-heard handles n lines s before told stands begun) ∙ waits)
+
+-- and gives what that answer brought, where it asked over handles that the table keeps too
+heard-brought : (handles asked_over : List Opened) (table : Handles) (n : ℕ) (lines : List Standing) (s : Standing) (before : Heard) (called : Call) (question : Option Question) (answer : Brief) (count : ℕ) → line_at n lines ≡ Some s → s.phase ≡ Begun before → Keeps table handles → Keeps table asked_over →
+    next_of (handle_of s.line asked_over) s.line.request before ≡ Asks called →
+    next_at handles n (change_line n (heard (told_by question answer)) lines) ≡ Gives count → answer ≡ Bytes count
+heard-brought handles asked_over table n lines s before called question answer count stands begun keeps kept asks gives =
+    let told : Told = told_by question answer in
+    let same : handle_of s.line handles ≡ handle_of s.line asked_over = kept-same table handles asked_over s.line keeps kept in
+    let behind : next_of (handle_of s.line handles) s.line.request (with_told told before) ≡ Gives count = sym (next_at-heard handles n lines s before told stands begun) ∙ gives in
+    gives_brought (handle_of s.line asked_over) s.line.request before called question answer count asks (subst (λ (h : Option Handle). next_of h s.line.request (with_told told before) ≡ Gives count) same behind)
+
+pub is_heard : (old : Work) (n position number : ℕ) (question : Option Question) (answer : Brief) → IsCore old (core_of old) → MayDone (state_of (core_of old)) n position answer →
+    ((h : table.Held) → table.held_at n old.jobs.held ≡ Some h → (number ≡ h.line) × (question ≡ h.question)) → IsHeard old n number question answer
+is_heard old n position number question answer core may owns =
     let s : ClientState = state_of (core_of old) in
     let is_alive = alive_core old core in
-    let held : table.held_at n old.jobs.held ≡ Some (record { number = n; line = may.job.line; call = None }) = ap (table.held_at n) core.held ∙ held_at-out n may.from s.jobs may.job may.stands may.is_out in
-    let own : may.job.line ≡ number = sym (owns (record { number = n; line = may.job.line; call = None }) held) in
+    let out : table.Held = record { number = n; line = may.job.line; call = None; question = question_of may.job.call } in
+    let held : table.held_at n old.jobs.held ≡ Some out = ap (table.held_at n) core.held ∙ held_at-out n may.from s.jobs may.job may.stands may.is_out in
+    let own : may.job.line ≡ number = sym ((owns out held).0) in
+    let asked : question_of may.job.call ≡ question = sym ((owns out held).1) in
     let live : may.job.phase ≢ Gone = λ gone. absurd (let e : Out may.from ≡ Gone = sym may.is_out ∙ gone in cc) in
     let at = served s n may.job is_alive may.stands live in
     let stands : line_at number old.lines ≡ Some at.standing = ap (line_at number) core.lines ∙ subst (λ k. line_at k s.lines ≡ Some at.standing) own at.stands in
     let line = at.standing.line in
+    let told : Told = told_by question answer in
     let makes : next_at s.handles may.job.line s.lines ≡ Asks may.job.call = job_makes_call (core_of old).script (core_of old).steps n may.job core.rising core.so_far may.stands live in
-    let asks : next_of (handle_of line s.handles) line.request at.answers ≡ Asks may.job.call = sym (next_at-begun s.handles may.job.line s.lines at.standing at.answers at.stands at.begun) ∙ makes in
+    let asks : next_of (handle_of line s.handles) line.request at.heard ≡ Asks may.job.call = begun-asks s.handles may.job.line s.lines at.standing at.heard may.job.call at.stands at.begun makes in
     record {
-      begun = record { standing = at.standing; stands = stands; answers = at.answers; phase = at.begun };
+      begun = record { standing = at.standing; stands = stands; heard = at.heard; phase = at.begun };
       whose = line-is (job_at n s.jobs) may.job may.stands ∙ ap Some own;
-      lines = hears-is (job_at n s.jobs) may.job answer s.lines may.stands ∙ (ap (λ k. change_line k (heard answer) s.lines) own ∙ ap (change_line number (heard answer)) (sym core.lines));
-      not_idle = λ handles waits. no_wait (handle_of line handles) line.request (at.answers ++ answer ∷ []) at.no_await (sym (next_at-heard handles number old.lines at.standing at.answers answer stands at.begun) ∙ waits);
-      brought = λ handles count keeps gives.
-          let same : handle_of line handles ≡ handle_of line s.handles = kept-same old.handles handles s.handles line keeps core.handles in
-          let behind : next_of (handle_of line s.handles) line.request (at.answers ++ answer ∷ []) ≡ Gives count = ap (λ (h : Option Handle). next_of h line.request (at.answers ++ answer ∷ [])) (sym same) ∙ (sym (next_at-heard handles number old.lines at.standing at.answers answer stands at.begun) ∙ gives) in
-          gives_brought (handle_of line s.handles) line.request at.answers may.job.call answer count asks behind;
+      lines = hears-is (job_at n s.jobs) may.job answer s.lines may.stands ∙ (ap (λ q. change_line may.job.line (heard (told_by q answer)) s.lines) asked ∙ (ap (λ k. change_line k (heard told) s.lines) own ∙ ap (change_line number (heard told)) (sym core.lines)));
+      not_idle = λ handles. heard-goes handles number old.lines at.standing at.heard told stands at.begun at.no_await;
+      brought = λ handles count keeps. heard-brought handles s.handles old.handles number old.lines at.standing at.heard may.job.call question answer count stands at.begun keeps core.handles asks;
     }
 
 -- the bytes of an answer are as many as its brief says
@@ -252,43 +267,44 @@ brought_long full.Fault count is = absurd (cc)
 brought_long full.NoMemory count is = absurd (cc)
 
 -- the line goes on with what is due of it behind the answer
-pub may_go_on : (old ended : Work) (n number : ℕ) (answer : Answer) (due : Due) (told : Brief) (bytes : List ℕ) (handles : List Opened) → IsHeard old n number (brief_of answer) → ended.lines ≡ old.lines → told ≡ brief_of answer → bytes ≡ bytes_in answer → Keeps old.handles handles →
+pub may_go_on : (old ended : Work) (n number : ℕ) (question : Option Question) (answer : Answer) (due : Due) (told : Told) (bytes : List ℕ) (handles : List Opened) → IsHeard old n number question (brief_of answer) → ended.lines ≡ old.lines → told ≡ told_by question (brief_of answer) → bytes ≡ bytes_in answer → Keeps old.handles handles →
     DueMeans due (owner_at handles number (change_line number (heard_last (Some told)) ended.lines)) (next_at handles number (change_line number (heard_last (Some told)) ended.lines)) →
     MayGoOn number due (Some told) bytes handles ended.lines
-may_go_on old ended n number answer due told bytes handles is_heard same brief is keeps means =
-    let next : next_at handles number (change_line number (heard_last (Some told)) ended.lines) ≡ next_at handles number (change_line number (heard (brief_of answer)) old.lines) = ap (λ (b : Brief). next_at handles number (change_line number (heard b) ended.lines)) brief ∙ ap (λ (l : List Standing). next_at handles number (change_line number (heard (brief_of answer)) l)) same in
+may_go_on old ended n number question answer due told bytes handles is_heard same tells is keeps means =
+    let told_is : Told = told_by question (brief_of answer) in
+    let next : next_at handles number (change_line number (heard_last (Some told)) ended.lines) ≡ next_at handles number (change_line number (heard told_is) old.lines) = ap (λ (t : Told). next_at handles number (change_line number (heard t) ended.lines)) tells ∙ ap (λ (l : List Standing). next_at handles number (change_line number (heard told_is) l)) same in
     record {
       means = means;
       not_idle = inr (λ waits. is_heard.not_idle handles (sym next ∙ waits));
       gives = λ count gives. ap length is ∙ brought_long answer count (is_heard.brought handles count keeps (sym next ∙ gives));
     }
 
-pub goes_on_as : (n : ℕ) (told answer : Brief) (bytes brought : List ℕ) (begun turned : Work) → told ≡ answer → bytes ≡ brought →
+pub goes_on_as : (n : ℕ) (told heard_as : Told) (bytes brought : List ℕ) (begun turned : Work) → told ≡ heard_as → bytes ≡ brought →
     ((handles : List Opened) → Keeps begun.handles handles → GoesOn n (Some told) bytes handles begun turned) →
-    (handles : List Opened) → Keeps begun.handles handles → GoesOn n (Some answer) brought handles begun turned
-goes_on_as n told answer bytes brought begun turned brief is goes handles keeps =
-    subst (λ (b : List ℕ). GoesOn n (Some answer) b handles begun turned) is (subst (λ (a : Brief). GoesOn n (Some a) bytes handles begun turned) brief (goes handles keeps))
+    (handles : List Opened) → Keeps begun.handles handles → GoesOn n (Some heard_as) brought handles begun turned
+goes_on_as n told heard_as bytes brought begun turned tells is goes handles keeps =
+    subst (λ (b : List ℕ). GoesOn n (Some heard_as) b handles begun turned) is (subst (λ (t : Told). GoesOn n (Some t) bytes handles begun turned) tells (goes handles keeps))
 
 -- A job's answer has come.
-pub done_leaves : (old begun turned new : Work) (n position number : ℕ) (answer : Brief) (bytes : List ℕ) → IsCore old (core_of old) →
+pub done_leaves : (old begun turned new : Work) (n position number : ℕ) (question : Option Question) (answer : Brief) (bytes : List ℕ) → IsCore old (core_of old) →
     MayDone (state_of (core_of old)) n position answer →
-    IsHeard old n number answer →
+    IsHeard old n number question answer →
     begun.time ≡ old.time →
     begun.record.steps ≡ old.record.steps ++ step_of (Done n position answer) ∷ [] →
     begun.lines ≡ old.lines →
     begun.jobs.count ≡ old.jobs.count →
     begun.jobs.held ≡ table.without n old.jobs.held →
     begun.handles ≡ old.handles →
-    ((handles : List Opened) → Keeps begun.handles handles → GoesOn number (Some answer) bytes handles begun turned) →
+    ((handles : List Opened) → Keeps begun.handles handles → GoesOn number (Some (told_by question answer)) bytes handles begun turned) →
     Answers (due_awaits turned.lines) turned new →
     new.handles ≡ turned.handles →
     Leaves (Done n position answer) bytes old new
-done_leaves old begun turned new n position number answer bytes core may is_heard time_is steps lines count held same goes answers kept =
+done_leaves old begun turned new n position number question answer bytes core may is_heard time_is steps lines count held same goes answers kept =
     let s : ClientState = state_of (core_of old) in
     let event : Event = Done n position answer in
     let gone : table.held_of (change_job n Gone s.jobs) ≡ table.without n (table.held_of s.jobs) = held_of-gone n 1 s.jobs (numbered 1 s.jobs (alive_core old core).numbered) in
-    let all_lines : lines_at s.lines s.jobs event ≡ change_line number (heard_last (Some answer)) begun.lines = is_heard.lines ∙ ap (change_line number (heard answer)) (sym lines) in
-    let done = turn_done s event number (Some answer) bytes old.record.steps begun turned new
+    let all_lines : lines_at s.lines s.jobs event ≡ change_line number (heard_last (Some (told_by question answer))) begun.lines = is_heard.lines ∙ ap (change_line number (heard (told_by question answer))) (sym lines) in
+    let done = turn_done s event number (Some (told_by question answer)) bytes old.record.steps begun turned new
     (alive_core old core)
     steps
     is_heard.whose
@@ -304,31 +320,31 @@ done_leaves old begun turned new n position number answer bytes core may is_hear
     (count ∙ (core.count ∙ sym (length-change_job n Gone s.jobs)))
 
 -- a line that may begin has begun behind its begin
-pub begun_behind : (old begun : Work) (n : ℕ) → IsCore old (core_of old) → is_among n (startable (state_of (core_of old)).lines) ≡ true → begun.lines ≡ change_line n (λ phase. Begun []) old.lines → HasBegun n begun.lines
+pub begun_behind : (old begun : Work) (n : ℕ) → IsCore old (core_of old) → is_among n (startable (state_of (core_of old)).lines) ≡ true → begun.lines ≡ change_line n (λ phase. Begun nothing_heard) old.lines → HasBegun n begun.lines
 begun_behind old begun n core may lines =
     let s : ClientState = state_of (core_of old) in
     let waits = startable-found 0 n [] s.lines (Rises-lines 0 s.lines (alive_core old core).rising) may in
     let there : line_at n old.lines ≡ Some (record { line = waits.line; phase = Waiting }) = ap (line_at n) core.lines ∙ waits.stands in
     record {
-      standing = record { line = waits.line; phase = Begun [] };
-      stands = ap (line_at n) lines ∙ line_at-change n (λ phase. Begun []) old.lines (record { line = waits.line; phase = Waiting }) there;
-      answers = [];
+      standing = record { line = waits.line; phase = Begun nothing_heard };
+      stands = ap (line_at n) lines ∙ line_at-change n (λ phase. Begun nothing_heard) old.lines (record { line = waits.line; phase = Waiting }) there;
+      heard = nothing_heard;
       phase = refl;
     }
 
 -- what a line gives in the step of its begin is empty
-pub begun_gives : (old begun : Work) (n : ℕ) (bytes : List ℕ) (handles : List Opened) → IsCore old (core_of old) → is_among n (startable (state_of (core_of old)).lines) ≡ true → begun.lines ≡ change_line n (λ phase. Begun []) old.lines → bytes ≡ [] → (count : ℕ) → next_at handles n (change_line n (heard_last None) begun.lines) ≡ Gives count → length bytes ≡ count
+pub begun_gives : (old begun : Work) (n : ℕ) (bytes : List ℕ) (handles : List Opened) → IsCore old (core_of old) → is_among n (startable (state_of (core_of old)).lines) ≡ true → begun.lines ≡ change_line n (λ phase. Begun nothing_heard) old.lines → bytes ≡ [] → (count : ℕ) → next_at handles n (change_line n (heard_last None) begun.lines) ≡ Gives count → length bytes ≡ count
 unfolding begun_behind
 begun_gives old begun n bytes handles core may lines empty count gives =
     let now = begun_behind old begun n core may lines in
     let line = now.standing.line in
-    let next : next_of (handle_of line handles) line.request [] ≡ Gives count = sym (next_at-begun handles n begun.lines now.standing [] now.stands now.phase) ∙ (sym (ap (next_at handles n) (change_line-same n begun.lines)) ∙ gives) in
+    let next : next_of (handle_of line handles) line.request nothing_heard ≡ Gives count = sym (next_at-begun handles n begun.lines now.standing nothing_heard now.stands now.phase) ∙ (sym (ap (next_at handles n) (change_line-same n begun.lines)) ∙ gives) in
     ap length empty ∙ sym (gives_none (handle_of line handles) line.request count next)
 
 pub begun_same : (n : ℕ) (old new : List Standing) → new ≡ old → HasBegun n old → HasBegun n new
 begun_same n old new same begun = subst (HasBegun n) (sym same) begun
 
-pub has_step_turned : (n : ℕ) (last : Option Brief) (bytes : List ℕ) (handles : List Opened) (begun turned : Work) → GoesOn n last bytes handles begun turned → MayAsk begun.record.steps → HasStep turned.record.steps
+pub has_step_turned : (n : ℕ) (last : Option Told) (bytes : List ℕ) (handles : List Opened) (begun turned : Work) → GoesOn n last bytes handles begun turned → MayAsk begun.record.steps → HasStep turned.record.steps
 has_step_turned n last bytes handles begun turned goes may = subst HasStep (sym goes.steps) (HasStep-change_last (with_turn goes.asks goes.own) begun.record.steps (HasStep-asking begun.record.steps may))
 
 -- quiet means that each line has its reply and no job is held

@@ -1,8 +1,13 @@
--- What a line asks, opens and gives, by what it did before.
+-- What a line opens and gives, by what it did before.
 use Rattle.std.proofs.Common.{◌≡◌, ℕ, List, [], ◌∷◌, ◌++◌, Option, Some, None, Result, Ok, Err, refl, ap, subst}
 use Rattle.mp_types.specs.declared.path.PathFault.{PathFault}
-use Rattle.mp_types.specs.Path.{path_of, slash}
+use Rattle.mp_types.specs.Path.{path_of, joined}
 use Rattle.mp_types.specs.Content.{bytes_of}
+use Rattle.mp_rules.specs.declared.entry.Entry.{Entry}
+use Rattle.mp_rules.specs.declared.entry.Entry.TheVariants.{Directory, File, Nothing}
+use Rattle.mp_rules.specs.declared.facts.Question.{Question}
+use Rattle.mp_rules.specs.declared.facts.Fact.{Fact}
+use Rattle.mp_rules.specs.Walk.{Decision, Need, Is, Refused, fact_in, stands_at}
 use Rattle.bucket_model.specs.declared.call.Call.{Call}
 use Rattle.bucket_model.specs.declared.answer.Brief.{Brief}
 use Rattle.bucket_model.specs.declared.answer.Brief.TheVariants as answer
@@ -10,175 +15,110 @@ use Rattle.mount_model.specs.declared.handle.Handle.{Handle}
 use Rattle.mount_model.specs.declared.handle.Version.{Version}
 use Rattle.mount_model.specs.declared.request.Request.{Request}
 use Rattle.mount_model.specs.declared.request.Request.TheVariants as request
-use Rattle.mount_model.specs.declared.request.Reply.{Reply}
-use Rattle.mount_model.specs.declared.request.Reply.TheVariants as reply
-use Rattle.mount_model.specs.Conversation.{Next, Asks, Replies, Opens, Gives, Waits, Entry, Directory, File, Nothing, Range, next_of, put_next, delete_next, stat_next, stat_at, open_at, open_next, walk, prefix_next, blocked_next, entry_next, file_next, range_next, range_in, read_next, close_next}
+use Rattle.mount_model.specs.declared.standing.Heard.{Heard}
+use Rattle.mount_model.specs.declared.standing.Told.{Told}
+use Rattle.mount_model.specs.declared.standing.Told.TheVariants.{Fact as AFact, Answer}
+use Rattle.mount_model.specs.Heard.{nothing_heard, with_told, fact_of, told_from, told_by}
+use Rattle.mount_model.specs.Conversation.{Next, Asks, Replies, Opens, Gives, Waits, Range, next_of, put_next, delete_next, stat_next, stat_at, open_at, open_next, at_path, range_next, range_in, read_next, close_next}
 use Rattle.run_laws.proofs.Conversation.{IsRead, gives-read}
 
--- a reply that gives no data
-abbrev pub IsPlain : Reply → Type 0
-IsPlain (reply.Made etag) = Unit {0}
-IsPlain reply.Success = Unit {0}
-IsPlain reply.Directory = Unit {0}
-IsPlain (reply.File size) = Unit {0}
-IsPlain (reply.Open size) = Unit {0}
-IsPlain (reply.Data bytes) = ⊥
-IsPlain reply.Gone = Unit {0}
-IsPlain (reply.Failed errno) = Unit {0}
+-- a handle is opened only under a name that is free
+abbrev IsFree : Option Handle → Next → Type 0
+IsFree handle (Asks called) = Unit {0}
+IsFree handle (Replies said) = Unit {0}
+IsFree handle (Opens version) = handle ≡ None
+IsFree handle (Gives count) = Unit {0}
+IsFree handle Waits = Unit {0}
 
--- data are given and not said, and a handle is opened only under a name that is free
-abbrev IsProper : Option Handle → Next → Type 0
-IsProper handle (Asks called) = Unit {0}
-IsProper handle (Replies said) = IsPlain said
-IsProper handle (Opens version) = handle ≡ None
-IsProper handle (Gives count) = Unit {0}
-IsProper handle Waits = Unit {0}
+put-free : (h : Option Handle) (key bytes : List ℕ) (answers : List Brief) → IsFree h (put_next key bytes answers)
+put-free h key bytes [] = tt
+put-free h key bytes (answer.Found etag size ∷ answers) = tt
+put-free h key bytes (answer.Missing ∷ answers) = tt
+put-free h key bytes (answer.Yes ∷ answers) = tt
+put-free h key bytes (answer.No ∷ answers) = tt
+put-free h key bytes (answer.Bytes count ∷ answers) = tt
+put-free h key bytes (answer.Changed ∷ answers) = tt
+put-free h key bytes (answer.Gone ∷ answers) = tt
+put-free h key bytes (answer.Made etag ∷ answers) = tt
+put-free h key bytes (answer.Fault ∷ answers) = tt
+put-free h key bytes (answer.NoMemory ∷ answers) = tt
 
-put-proper : (h : Option Handle) (key bytes : List ℕ) (answers : List Brief) → IsProper h (put_next key bytes answers)
-put-proper h key bytes [] = tt
-put-proper h key bytes (answer.Found etag size ∷ answers) = tt
-put-proper h key bytes (answer.Missing ∷ answers) = tt
-put-proper h key bytes (answer.Yes ∷ answers) = tt
-put-proper h key bytes (answer.No ∷ answers) = tt
-put-proper h key bytes (answer.Bytes count ∷ answers) = tt
-put-proper h key bytes (answer.Changed ∷ answers) = tt
-put-proper h key bytes (answer.Gone ∷ answers) = tt
-put-proper h key bytes (answer.Made etag ∷ answers) = tt
-put-proper h key bytes (answer.Fault ∷ answers) = tt
-put-proper h key bytes (answer.NoMemory ∷ answers) = tt
+delete-free : (h : Option Handle) (key : List ℕ) (answers : List Brief) → IsFree h (delete_next key answers)
+delete-free h key [] = tt
+delete-free h key (answer.Found etag size ∷ answers) = tt
+delete-free h key (answer.Missing ∷ answers) = tt
+delete-free h key (answer.Yes ∷ answers) = tt
+delete-free h key (answer.No ∷ answers) = tt
+delete-free h key (answer.Bytes count ∷ answers) = tt
+delete-free h key (answer.Changed ∷ answers) = tt
+delete-free h key (answer.Gone ∷ answers) = tt
+delete-free h key (answer.Made etag ∷ answers) = tt
+delete-free h key (answer.Fault ∷ answers) = tt
+delete-free h key (answer.NoMemory ∷ answers) = tt
 
-delete-proper : (h : Option Handle) (key : List ℕ) (answers : List Brief) → IsProper h (delete_next key answers)
-delete-proper h key [] = tt
-delete-proper h key (answer.Found etag size ∷ answers) = tt
-delete-proper h key (answer.Missing ∷ answers) = tt
-delete-proper h key (answer.Yes ∷ answers) = tt
-delete-proper h key (answer.No ∷ answers) = tt
-delete-proper h key (answer.Bytes count ∷ answers) = tt
-delete-proper h key (answer.Changed ∷ answers) = tt
-delete-proper h key (answer.Gone ∷ answers) = tt
-delete-proper h key (answer.Made etag ∷ answers) = tt
-delete-proper h key (answer.Fault ∷ answers) = tt
-delete-proper h key (answer.NoMemory ∷ answers) = tt
+path-free : (h : Option Handle) (at : Entry → Next) → ((entry : Entry) → IsFree h (at entry)) → (decision : Decision) (answers : List Brief) → IsFree h (at_path at decision answers)
+path-free h at free decision (answer ∷ answers) = tt
+path-free h at free (Need question) [] = tt
+path-free h at free (Is entry) [] = free entry
+path-free h at free (Refused errno) [] = tt
 
-stat_at-proper : (h : Option Handle) (entry : Entry) → IsProper h (stat_at entry)
-stat_at-proper h Directory = tt
-stat_at-proper h (File version) = tt
-stat_at-proper h Nothing = tt
+stat_at-free : (h : Option Handle) (entry : Entry) → IsFree h (stat_at entry)
+stat_at-free h Directory = tt
+stat_at-free h (File etag size) = tt
+stat_at-free h Nothing = tt
 
-file-proper : (h : Option Handle) (at : Entry → Next) → ((entry : Entry) → IsProper h (at entry)) → (key : List ℕ) (answers : List Brief) → IsProper h (file_next at key answers)
-file-proper h at fine key [] = tt
-file-proper h at fine key (answer.Found etag size ∷ answers) = fine (File (record { key = key; etag = etag; size = size }))
-file-proper h at fine key (answer.Missing ∷ answers) = fine Nothing
-file-proper h at fine key (answer.Yes ∷ answers) = tt
-file-proper h at fine key (answer.No ∷ answers) = tt
-file-proper h at fine key (answer.Bytes count ∷ answers) = tt
-file-proper h at fine key (answer.Changed ∷ answers) = tt
-file-proper h at fine key (answer.Gone ∷ answers) = tt
-file-proper h at fine key (answer.Made etag ∷ answers) = tt
-file-proper h at fine key (answer.Fault ∷ answers) = tt
-file-proper h at fine key (answer.NoMemory ∷ answers) = tt
+stat-free : (h : Option Handle) (path : Result (List (List ℕ)) PathFault) (heard : Heard) → IsFree h (stat_next path heard)
+stat-free h (Err why) heard = tt
+stat-free h (Ok names) heard = path-free h stat_at (stat_at-free h) (stands_at (fact_in heard.facts) names) heard.answers
 
-blocked-proper : (h : Option Handle) (key : List ℕ) (answers : List Brief) → IsProper h (blocked_next key answers)
-blocked-proper h key [] = tt
-blocked-proper h key (answer.Found etag size ∷ answers) = tt
-blocked-proper h key (answer.Missing ∷ answers) = tt
-blocked-proper h key (answer.Yes ∷ answers) = tt
-blocked-proper h key (answer.No ∷ answers) = tt
-blocked-proper h key (answer.Bytes count ∷ answers) = tt
-blocked-proper h key (answer.Changed ∷ answers) = tt
-blocked-proper h key (answer.Gone ∷ answers) = tt
-blocked-proper h key (answer.Made etag ∷ answers) = tt
-blocked-proper h key (answer.Fault ∷ answers) = tt
-blocked-proper h key (answer.NoMemory ∷ answers) = tt
+open_at-free : (key : List ℕ) (entry : Entry) → IsFree None (open_at key entry)
+open_at-free key Directory = tt
+open_at-free key (File etag size) = refl
+open_at-free key Nothing = tt
 
-entry-proper : (h : Option Handle) (at : Entry → Next) → ((entry : Entry) → IsProper h (at entry)) → (key : List ℕ) (answers : List Brief) → IsProper h (entry_next at key answers)
-entry-proper h at fine key [] = tt
-entry-proper h at fine key (answer.Found etag size ∷ answers) = tt
-entry-proper h at fine key (answer.Missing ∷ answers) = tt
-entry-proper h at fine key (answer.Yes ∷ answers) = fine Directory
-entry-proper h at fine key (answer.No ∷ answers) = file-proper h at fine key answers
-entry-proper h at fine key (answer.Bytes count ∷ answers) = tt
-entry-proper h at fine key (answer.Changed ∷ answers) = tt
-entry-proper h at fine key (answer.Gone ∷ answers) = tt
-entry-proper h at fine key (answer.Made etag ∷ answers) = tt
-entry-proper h at fine key (answer.Fault ∷ answers) = tt
-entry-proper h at fine key (answer.NoMemory ∷ answers) = tt
+open-free : (h : Option Handle) (path : Result (List (List ℕ)) PathFault) (heard : Heard) → IsFree h (open_next h path heard)
+open-free h (Err why) heard = tt
+open-free (Some handle) (Ok names) heard = tt
+open-free None (Ok names) heard = path-free None (open_at (joined names)) (open_at-free (joined names)) (stands_at (fact_in heard.facts) names) heard.answers
 
-prefix-proper : (h : Option Handle) (below : List Brief → Next) (key : List ℕ) (answers : List Brief) → ((rest : List Brief) → IsProper h (below rest)) → IsProper h (prefix_next below key answers)
-prefix-proper h below key [] fine = tt
-prefix-proper h below key (answer.Found etag size ∷ answers) fine = tt
-prefix-proper h below key (answer.Missing ∷ answers) fine = tt
-prefix-proper h below key (answer.Yes ∷ answers) fine = fine answers
-prefix-proper h below key (answer.No ∷ answers) fine = blocked-proper h key answers
-prefix-proper h below key (answer.Bytes count ∷ answers) fine = tt
-prefix-proper h below key (answer.Changed ∷ answers) fine = tt
-prefix-proper h below key (answer.Gone ∷ answers) fine = tt
-prefix-proper h below key (answer.Made etag ∷ answers) fine = tt
-prefix-proper h below key (answer.Fault ∷ answers) fine = tt
-prefix-proper h below key (answer.NoMemory ∷ answers) fine = tt
+range-free : (h : Option Handle) (version : Version) (range : Option Range) (answers : List Brief) → IsFree h (range_next version range answers)
+range-free h version None answers = tt
+range-free h version (Some range) [] = tt
+range-free h version (Some range) (answer.Found etag size ∷ answers) = tt
+range-free h version (Some range) (answer.Missing ∷ answers) = tt
+range-free h version (Some range) (answer.Yes ∷ answers) = tt
+range-free h version (Some range) (answer.No ∷ answers) = tt
+range-free h version (Some range) (answer.Bytes count ∷ answers) = tt
+range-free h version (Some range) (answer.Changed ∷ answers) = tt
+range-free h version (Some range) (answer.Gone ∷ answers) = tt
+range-free h version (Some range) (answer.Made etag ∷ answers) = tt
+range-free h version (Some range) (answer.Fault ∷ answers) = tt
+range-free h version (Some range) (answer.NoMemory ∷ answers) = tt
 
-walk-proper : (h : Option Handle) (at : Entry → Next) → ((entry : Entry) → IsProper h (at entry)) → (key : List ℕ) (names : List (List ℕ)) (answers : List Brief) → IsProper h (walk at key names answers)
-walk-proper h at fine key [] answers = entry-proper h at fine key answers
-walk-proper h at fine key (name ∷ names) answers = prefix-proper h (walk at (key ++ slash ∷ name) names) key answers (walk-proper h at fine (key ++ slash ∷ name) names)
+read-free : (h : Option Handle) (offset count : ℕ) (answers : List Brief) → IsFree h (read_next h offset count answers)
+read-free None offset count answers = tt
+read-free (Some handle) offset count answers = range-free (Some handle) handle.version (range_in offset count handle.version.size) answers
 
-stat-proper : (h : Option Handle) (path : Result (List (List ℕ)) PathFault) (answers : List Brief) → IsProper h (stat_next path answers)
-stat-proper h (Err why) answers = tt
-stat-proper h (Ok []) answers = tt
-stat-proper h (Ok (name ∷ names)) answers = walk-proper h stat_at (stat_at-proper h) name names answers
+close-free : (h : Option Handle) → IsFree h (close_next h)
+close-free None = tt
+close-free (Some handle) = tt
 
-open_at-proper : (entry : Entry) → IsProper None (open_at entry)
-open_at-proper Directory = tt
-open_at-proper (File version) = refl
-open_at-proper Nothing = tt
-
-open-proper : (h : Option Handle) (path : Result (List (List ℕ)) PathFault) (answers : List Brief) → IsProper h (open_next h path answers)
-open-proper h (Err why) answers = tt
-open-proper (Some handle) (Ok names) answers = tt
-open-proper None (Ok []) answers = tt
-open-proper None (Ok (name ∷ names)) answers = walk-proper None open_at open_at-proper name names answers
-
-range-proper : (h : Option Handle) (version : Version) (range : Option Range) (answers : List Brief) → IsProper h (range_next version range answers)
-range-proper h version None answers = tt
-range-proper h version (Some range) [] = tt
-range-proper h version (Some range) (answer.Found etag size ∷ answers) = tt
-range-proper h version (Some range) (answer.Missing ∷ answers) = tt
-range-proper h version (Some range) (answer.Yes ∷ answers) = tt
-range-proper h version (Some range) (answer.No ∷ answers) = tt
-range-proper h version (Some range) (answer.Bytes count ∷ answers) = tt
-range-proper h version (Some range) (answer.Changed ∷ answers) = tt
-range-proper h version (Some range) (answer.Gone ∷ answers) = tt
-range-proper h version (Some range) (answer.Made etag ∷ answers) = tt
-range-proper h version (Some range) (answer.Fault ∷ answers) = tt
-range-proper h version (Some range) (answer.NoMemory ∷ answers) = tt
-
-read-proper : (h : Option Handle) (offset count : ℕ) (answers : List Brief) → IsProper h (read_next h offset count answers)
-read-proper None offset count answers = tt
-read-proper (Some handle) offset count answers = range-proper (Some handle) handle.version (range_in offset count handle.version.size) answers
-
-close-proper : (h : Option Handle) → IsProper h (close_next h)
-close-proper None = tt
-close-proper (Some handle) = tt
-
-next-proper : (h : Option Handle) (r : Request) (answers : List Brief) → IsProper h (next_of h r answers)
-next-proper h (request.Put key content) answers = put-proper h key (bytes_of content) answers
-next-proper h request.Await answers = tt
-next-proper h (request.Stat path) answers = stat-proper h (path_of path) answers
-next-proper h (request.OpenRead name path) answers = open-proper h (path_of path) answers
-next-proper h (request.Read name offset count) answers = read-proper h offset count answers
-next-proper h (request.Close name) answers = close-proper h
-next-proper h (request.Delete key) answers = delete-proper h key answers
+next-free : (h : Option Handle) (r : Request) (heard : Heard) → IsFree h (next_of h r heard)
+next-free h (request.Put key content) heard = put-free h key (bytes_of content) heard.answers
+next-free h request.Await heard = tt
+next-free h (request.Stat path) heard = stat-free h (path_of path) heard
+next-free h (request.OpenRead name path) heard = open-free h (path_of path) heard
+next-free h (request.Read name offset count) heard = read-free h offset count heard.answers
+next-free h (request.Close name) heard = close-free h
+next-free h (request.Delete key) heard = delete-free h key heard.answers
 
 -- a handle is opened under a name that is free
-pub opens_free : (h : Option Handle) (r : Request) (answers : List Brief) (version : Version) → next_of h r answers ≡ Opens version → h ≡ None
-opens_free h r answers version is = subst (IsProper h) is (next-proper h r answers)
-
--- what is said outright is no data
-pub says_plain : (h : Option Handle) (r : Request) (answers : List Brief) (said : Reply) → next_of h r answers ≡ Replies said → IsPlain said
-says_plain h r answers said is = subst (IsProper h) is (next-proper h r answers)
+pub opens_free : (h : Option Handle) (r : Request) (heard : Heard) (version : Version) → next_of h r heard ≡ Opens version → h ≡ None
+opens_free h r heard version is = subst (IsFree h) is (next-free h r heard)
 
 -- what a line gives before any answer is empty
-pub gives_none : (handle : Option Handle) (r : Request) (count : ℕ) → next_of handle r [] ≡ Gives count → count ≡ 0
-gives_none handle r count is = by_request r (gives-read handle r [] count is) is
+pub gives_none : (handle : Option Handle) (r : Request) (count : ℕ) → next_of handle r nothing_heard ≡ Gives count → count ≡ 0
+gives_none handle r count is = by_request r (gives-read handle r nothing_heard count is) is
   where
     by_range : (version : Version) (range : Option Range) → range_next version range [] ≡ Gives count → count ≡ 0
     by_range version None is = cc
@@ -188,7 +128,7 @@ gives_none handle r count is = by_request r (gives-read handle r [] count is) is
     by_handle None offset asked is = absurd (cc)
     by_handle (Some handle) offset asked is = by_range handle.version (range_in offset asked handle.version.size) is
 
-    by_request : (r : Request) → IsRead r → next_of handle r [] ≡ Gives count → count ≡ 0
+    by_request : (r : Request) → IsRead r → next_of handle r nothing_heard ≡ Gives count → count ≡ 0
     by_request (request.Read name offset asked) read is = by_handle handle offset asked is
     by_request (request.Put key content) read is = absurd read
     by_request request.Await read is = absurd read
@@ -197,9 +137,19 @@ gives_none handle r count is = by_request r (gives-read handle r [] count is) is
     by_request (request.Close name) read is = absurd read
     by_request (request.Delete key) read is = absurd read
 
+-- an answer that tells no fact is told itself
+answer-told : (question : Option Question) (last told : Brief) → told_by question last ≡ Answer told → last ≡ told
+answer-told question last told is = by_fact question (fact_of last) is
+  where
+    by_fact : (question : Option Question) (fact : Option Fact) → told_from question fact last ≡ Answer told → last ≡ told
+    by_fact None fact is = cc
+    by_fact (Some asked) None is = cc
+    by_fact (Some asked) (Some tells) is = absurd (cc)
+
 -- and behind its one answer it is what that answer brought
-pub gives_brought : (handle : Option Handle) (r : Request) (answers : List Brief) (called : Call) (last : Brief) (count : ℕ) → next_of handle r answers ≡ Asks called → next_of handle r (answers ++ last ∷ []) ≡ Gives count → last ≡ answer.Bytes count
-gives_brought handle r answers called last count asks gives = by_request r (gives-read handle r (answers ++ last ∷ []) count gives) asks gives
+pub gives_brought : (handle : Option Handle) (r : Request) (heard : Heard) (called : Call) (question : Option Question) (last : Brief) (count : ℕ) → next_of handle r heard ≡ Asks called → next_of handle r (with_told (told_by question last) heard) ≡ Gives count → last ≡ answer.Bytes count
+gives_brought handle r heard called question last count asks gives =
+    answer-told question last (answer.Bytes count) (by_request r (told_by question last) (gives-read handle r (with_told (told_by question last) heard) count gives) asks gives)
   where
     by_last : (version : Version) (range : Range) (last : Brief) → range_next version (Some range) (last ∷ []) ≡ Gives count → last ≡ answer.Bytes count
     by_last version range (answer.Bytes n) gives = let same : n ≡ count = cc in ap (λ k. answer.Bytes k) same
@@ -225,20 +175,25 @@ gives_brought handle r answers called last count asks gives = by_request r (give
     none-asked version range answer.Fault answers asks = absurd (cc)
     none-asked version range answer.NoMemory answers asks = absurd (cc)
 
-    by_range : (version : Version) (range : Option Range) (answers : List Brief) → range_next version range answers ≡ Asks called → range_next version range (answers ++ last ∷ []) ≡ Gives count → last ≡ answer.Bytes count
-    by_range version None answers asks gives = absurd (cc)
-    by_range version (Some range) [] asks gives = by_last version range last gives
-    by_range version (Some range) (first ∷ answers) asks gives = absurd (none-asked version range first answers asks)
+    by_range : (version : Version) (range : Option Range) (answers : List Brief) (last : Brief) → range_next version range answers ≡ Asks called → range_next version range (answers ++ last ∷ []) ≡ Gives count → last ≡ answer.Bytes count
+    by_range version None answers last asks gives = absurd (cc)
+    by_range version (Some range) [] last asks gives = by_last version range last gives
+    by_range version (Some range) (first ∷ answers) last asks gives = absurd (none-asked version range first answers asks)
 
-    by_handle : (handle : Option Handle) (offset asked : ℕ) → read_next handle offset asked answers ≡ Asks called → read_next handle offset asked (answers ++ last ∷ []) ≡ Gives count → last ≡ answer.Bytes count
-    by_handle None offset asked asks gives = absurd (cc)
-    by_handle (Some handle) offset asked asks gives = by_range handle.version (range_in offset asked handle.version.size) answers asks gives
+    by_handle : (handle : Option Handle) (offset asked : ℕ) (last : Brief) → read_next handle offset asked heard.answers ≡ Asks called → read_next handle offset asked (heard.answers ++ last ∷ []) ≡ Gives count → last ≡ answer.Bytes count
+    by_handle None offset asked last asks gives = absurd (cc)
+    by_handle (Some handle) offset asked last asks gives = by_range handle.version (range_in offset asked handle.version.size) heard.answers last asks gives
 
-    by_request : (r : Request) → IsRead r → next_of handle r answers ≡ Asks called → next_of handle r (answers ++ last ∷ []) ≡ Gives count → last ≡ answer.Bytes count
-    by_request (request.Read name offset asked) read asks gives = by_handle handle offset asked asks gives
-    by_request (request.Put key content) read asks gives = absurd read
-    by_request request.Await read asks gives = absurd read
-    by_request (request.Stat path) read asks gives = absurd read
-    by_request (request.OpenRead name path) read asks gives = absurd read
-    by_request (request.Close name) read asks gives = absurd read
-    by_request (request.Delete key) read asks gives = absurd read
+    -- a fact leaves a read where it is
+    by_told : (told : Told) (offset asked : ℕ) → read_next handle offset asked heard.answers ≡ Asks called → read_next handle offset asked (with_told told heard).answers ≡ Gives count → told ≡ Answer (answer.Bytes count)
+    by_told (AFact known) offset asked asks gives = absurd (cc)
+    by_told (Answer last) offset asked asks gives = ap Answer (by_handle handle offset asked last asks gives)
+
+    by_request : (r : Request) (told : Told) → IsRead r → next_of handle r heard ≡ Asks called → next_of handle r (with_told told heard) ≡ Gives count → told ≡ Answer (answer.Bytes count)
+    by_request (request.Read name offset asked) told read asks gives = by_told told offset asked asks gives
+    by_request (request.Put key content) told read asks gives = absurd read
+    by_request request.Await told read asks gives = absurd read
+    by_request (request.Stat path) told read asks gives = absurd read
+    by_request (request.OpenRead name path) told read asks gives = absurd read
+    by_request (request.Close name) told read asks gives = absurd read
+    by_request (request.Delete key) told read asks gives = absurd read

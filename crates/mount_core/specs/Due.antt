@@ -1,6 +1,7 @@
 -- What is due of a line, as code holds it.
 use Rattle.std.specs.Prelude.{◌≡◌, ℕ}
 use Rattle.mount_model.specs.declared.event.Owner.{Owner}
+use Rattle.mount_model.specs.Heard.{question_of}
 use Rattle.mount_model.specs.Conversation.{Next, Asks, Replies, Opens, Gives, Waits}
 use Rattle.mount_model.specs.Run.{asked_of}
 use Rattle.mount_core.specs.declared.due.Due.{Due}
@@ -15,16 +16,16 @@ MayLack (Gives count) = ⊥
 MayLack Waits = ⊥
 
 abbrev pub DueMeans : Due → Owner → Next → Type 0
-DueMeans (due.Call owner call asked) expected next = (next ≡ Asks call) × (owner ≡ expected)
+DueMeans (due.Call owner call asked question) expected next = (next ≡ Asks call) × (owner ≡ expected)
 DueMeans (due.Reply said) expected next = next ≡ Replies said
 DueMeans (due.Open version) expected next = next ≡ Opens version
 DueMeans due.Data expected next = (count : ℕ) × (next ≡ Gives count)
 DueMeans due.Nothing expected next = next ≡ Waits
 DueMeans due.NoMemory expected next = MayLack next
 
--- the record tells the call that is made
+-- the record tells the call that is made, and the question is the one that it asks
 abbrev pub DueTells : Due → Type 0
-DueTells (due.Call owner call asked) = asked ≡ asked_of call
+DueTells (due.Call owner call asked question) = (asked ≡ asked_of call) × (question ≡ question_of call)
 DueTells (due.Reply said) = Unit {0}
 DueTells (due.Open version) = Unit {0}
 DueTells due.Data = Unit {0}

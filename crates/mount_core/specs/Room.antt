@@ -10,7 +10,7 @@ use Rattle.job_table.specs.LiveJobs.{Held}
 -- a line's begin and its reply
 abbrev pub owes_phase : Phase → ℕ
 owes_phase Waiting = 2
-owes_phase (Begun answers) = 1
+owes_phase (Begun heard) = 1
 owes_phase Replied = 0
 
 abbrev pub owes_lines : List Standing → ℕ

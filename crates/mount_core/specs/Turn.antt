@@ -3,7 +3,6 @@ use Rattle.std.specs.Prelude.{◌≡◌, ◌≢◌, ℕ, ◌+◌, List, [], ◌�
 use Rattle.std.specs.List.{AllByRecursion}
 use Rattle.mp_types.specs.declared.errno.Errno.TheVariants.{Enomem}
 use Rattle.bucket_model.specs.declared.call.Call.{Call}
-use Rattle.bucket_model.specs.declared.answer.Brief.{Brief}
 use Rattle.mount_model.specs.declared.handle.Version.{Version}
 use Rattle.mount_model.specs.declared.request.Reply.{Reply}
 use Rattle.mount_model.specs.declared.request.Reply.TheVariants as reply
@@ -13,7 +12,9 @@ use Rattle.mount_model.specs.declared.event.Owner.{Owner}
 use Rattle.mount_model.specs.declared.standing.Phase.{Phase}
 use Rattle.mount_model.specs.declared.standing.Phase.TheVariants.{Replied}
 use Rattle.mount_model.specs.declared.standing.Standing.{Standing}
+use Rattle.mount_model.specs.declared.standing.Told.{Told}
 use Rattle.line_table.specs.Table.{HasBegun}
+use Rattle.mount_model.specs.Heard.{question_of}
 use Rattle.mount_model.specs.Step.{Step, change_last, with_ask}
 use Rattle.mount_model.specs.State.{change_line, line_at, heard, whole_call, with_replies, next_at, by_reply, handles_after}
 use Rattle.mount_model.specs.Conversation.{Opens, Gives, Waits}
@@ -27,25 +28,29 @@ use Rattle.mount_core.specs.Due.{DueMeans}
 use Rattle.mount_core.specs.Handles.{Keeps}
 
 -- the last answer, which may not have been put behind the others
-abbrev pub heard_last : Option Brief → Phase → Phase
+abbrev pub heard_last : Option Told → Phase → Phase
 heard_last None phase = phase
-heard_last (Some answer) phase = heard answer phase
+heard_last (Some told) phase = heard told phase
 
 abbrev pub with_turn : List Ask → List Answered → Step → Step
 with_turn asks replies step = record { event = step.event; drops = step.drops; asks = step.asks ++ asks; replies = step.replies ++ replies }
 
+-- a job of this line with this call, and the question that it asks, if it asks one
+abbrev pub held_call : ℕ → ℕ → Call → Held
+held_call number line called = record { number = number; line = line; call = Some called; question = question_of called }
+
 -- the jobs that asks of a line make
 abbrev pub held_for : List Standing → ℕ → Ask → Held
-held_for lines line ask = record { number = ask.job; line = line; call = Some (whole_call lines line ask.call) }
+held_for lines line ask = held_call ask.job line (whole_call lines line ask.call)
 
 abbrev pub with_asks : List Standing → ℕ → List Ask → LiveJobs → LiveJobs
 with_asks lines line asks jobs = record { count = jobs.count + length asks; held = jobs.held ++ map (held_for lines line) asks }
 
 -- the line has asked for this call, as a new job
-pub record Asks (number : ℕ) (asker : Owner) (called : Call) (last : Option Brief) (old new : Work) : Type 0 where
+pub record Asks (number : ℕ) (asker : Owner) (called : Call) (last : Option Told) (old new : Work) : Type 0 where
   pub steps : new.record.steps ≡ change_last (with_ask (record { job = old.jobs.count + 1; owner = asker; call = asked_of called })) old.record.steps
   pub lines : new.lines ≡ change_line number (heard_last last) old.lines
-  pub jobs : new.jobs ≡ record { count = old.jobs.count + 1; held = old.jobs.held ++ record { number = old.jobs.count + 1; line = number; call = Some called } ∷ [] }
+  pub jobs : new.jobs ≡ record { count = old.jobs.count + 1; held = old.jobs.held ++ held_call (old.jobs.count + 1) number called ∷ [] }
   pub time : new.time ≡ old.time
 
 -- there was no memory for the call: the line may still be answered, and all else is as before
@@ -71,13 +76,13 @@ pub record OpensAs (number : ℕ) (version : Version) (old new : Work) : Type 0 
   pub opened : (handles : List Opened) (s : Standing) → Keeps old.handles handles → line_at number old.lines ≡ Some s → handle_of s.line handles ≡ None → Keeps new.handles (by_reply (Opens version) s.line said handles)
 
 -- what is due is what the line does next behind its last answer; bytes that it gives are these
-pub record MayGoOn (number : ℕ) (due : Due) (last : Option Brief) (bytes : List ℕ) (handles : List Opened) (lines : List Standing) : Type 0 where
+pub record MayGoOn (number : ℕ) (due : Due) (last : Option Told) (bytes : List ℕ) (handles : List Opened) (lines : List Standing) : Type 0 where
   pub means : DueMeans due (owner_at handles number (change_line number (heard_last last) lines)) (next_at handles number (change_line number (heard_last last) lines))
   pub not_idle : (last ≡ None) ⊎ (next_at handles number (change_line number (heard_last last) lines) ≢ Waits)
   pub gives : (count : ℕ) → next_at handles number (change_line number (heard_last last) lines) ≡ Gives count → length bytes ≡ count
 
 -- the line asks its call, gives its reply, or waits; the last answer has been heard
-pub record GoesOn (number : ℕ) (last : Option Brief) (bytes : List ℕ) (handles : List Opened) (old new : Work) : Type 0 where
+pub record GoesOn (number : ℕ) (last : Option Told) (bytes : List ℕ) (handles : List Opened) (old new : Work) : Type 0 where
   pub asks : List Ask
   pub own : List Answered
   pub turn : TakesTurn (old.jobs.count + 1) (TurnOf number (owner_at handles number (change_line number (heard_last last) old.lines)) (next_at handles number (change_line number (heard_last last) old.lines))) asks own

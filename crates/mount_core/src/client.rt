@@ -9,7 +9,8 @@ ghost use Rattle.mount_model.specs.Run.{AreRising, IsRunSoFar, IsQuiet, MayDone,
 use crate::work::Work;
 use bucket_model::{Answer, Call};
 use bytes::Bytes;
-use mount_model::{Record, Reply, Script};
+use job_table::Asker;
+use mount_model::{Record, Reply, Script, told_by};
 use std::alloc::{AllocError, Global};
 use std::marker::Model;
 
@@ -104,10 +105,10 @@ impl Core {
         requires { MayDone (state_of self.old) job position (brief_of answer) }
         ensures { Advances (Done job position (brief_of answer)) (bytes_in answer) self.old self.new }
     {
-        let brief = answer.brief();
-        let line = self.work.end_job(job, position, answer.brief());
-        let due = self.work.due(line, Some(&brief));
-        self.work.go_on(line, due, Some(brief), bytes_of(answer));
+        let Asker { line, question } = self.work.end_job(job, position, answer.brief());
+        let told = told_by(question, answer.brief());
+        let due = self.work.due(line, Some(&told));
+        self.work.go_on(line, due, Some(told), bytes_of(answer));
         self.work.answer_awaits();
     }
 

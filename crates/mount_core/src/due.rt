@@ -1,25 +1,28 @@
-ghost use Rattle.std.specs.Prelude.{◌≡◌, ◌<◌, ◌≤◌, ◌++◌, length, IfOk, option_to_list, option_copied};
+ghost use Rattle.std.specs.Prelude.{◌≡◌, ◌<◌, ◌≤◌, length, IfOk, option_copied};
 ghost use Rattle.mp_types.specs.Content.{bytes_of};
 ghost use Rattle.bucket_model.specs.declared.call.Call.TheVariants.{Delete, Get, Head, Probe, Put};
 ghost use Rattle.mount_model.specs.Conversation.{Asks, Opens, next_of};
 ghost use Rattle.mount_model.specs.Handles.{owner_for};
+ghost use Rattle.mount_plan.specs.Meant.{with_last};
 ghost use Rattle.mount_core.specs.Due.{DueMeans, DueTells};
 
-use bucket_model::{Brief, Call};
+use bucket_model::Call;
 use bytes::Bytes;
-use mount_model::{AskedCall, Handle, Owner, Reply, Request, Version};
+use mount_model::{AskedCall, Handle, Heard, Owner, Reply, Request, Told, Version};
 use mount_plan::{Plan, plan};
+use mp_rules::Question;
 use mp_types::{Data, ETag, Key, KeyFault};
 use std::alloc::{AllocError, Global};
 
 /// What is due of a line, with all the memory that it takes.
 #[derive(Drop)]
 pub enum Due {
-    /// A call, whose job it is, and how the record tells it.
+    /// A call, whose job it is, how the record tells it, and the question that it asks, if it asks one.
     Call {
         owner: Owner,
         call: Call,
         asked: AskedCall,
+        question: Option<Question>,
     },
     Reply(Reply),
     /// A handle on this version.
@@ -45,14 +48,15 @@ fn key_of(alloc: Global, text: &str) -> Result<Key, AllocError>
     }
 }
 
-fn two_keys(alloc: Global, text: &str) -> Result<(Key, Key), AllocError>
+fn three_keys(alloc: Global, text: &str) -> Result<(Key, Key, Key), AllocError>
     requires not_empty { 0 < length text.now }
     requires short { length text.now ≤ 1024 }
-    ensures { IfOk result (λ keys. (keys.0 ≡ text.now) × (keys.1 ≡ text.now)) }
+    ensures { IfOk result (λ keys. (keys.0 ≡ text.now) × (keys.1 ≡ text.now) × (keys.2 ≡ text.now)) }
 {
     let key = key_of(alloc, text)?;
-    let copied = key.copy(alloc)?;
-    Ok((key, copied))
+    let told = key.copy(alloc)?;
+    let asked = key.copy(alloc)?;
+    Ok((key, told, asked))
 }
 
 fn probe(alloc: Global, owner: Owner, text: &str) -> Due
@@ -61,11 +65,12 @@ fn probe(alloc: Global, owner: Owner, text: &str) -> Due
     ensures means { DueMeans result owner (Asks (Probe text.now)) }
     ensures tells { DueTells result }
 {
-    match two_keys(alloc, text) {
-        Ok((key, told)) => Due::Call {
+    match three_keys(alloc, text) {
+        Ok((key, told, asked)) => Due::Call {
             owner,
             call: Call::Probe { key },
             asked: AskedCall::Probe { key: told },
+            question: Some(Question::Probe(asked)),
         },
         Err(_) => Due::NoMemory,
     }
@@ -77,11 +82,12 @@ fn head(alloc: Global, owner: Owner, text: &str) -> Due
     ensures means { DueMeans result owner (Asks (Head text.now)) }
     ensures tells { DueTells result }
 {
-    match two_keys(alloc, text) {
-        Ok((key, told)) => Due::Call {
+    match three_keys(alloc, text) {
+        Ok((key, told, asked)) => Due::Call {
             owner,
             call: Call::Head { key },
             asked: AskedCall::Head { key: told },
+            question: Some(Question::Head(asked)),
         },
         Err(_) => Due::NoMemory,
     }
@@ -112,6 +118,7 @@ fn get(alloc: Global, owner: Owner, version: &Version, from: u64, to: u64) -> Du
                 from,
                 to,
             },
+            question: None,
         },
         Err(_) => Due::NoMemory,
     }
@@ -126,6 +133,7 @@ fn delete(alloc: Global, owner: Owner, key: &Key) -> Due
             owner,
             call: Call::Delete { key },
             asked: AskedCall::Delete { key: told },
+            question: None,
         },
         Err(_) => Due::NoMemory,
     }
@@ -159,6 +167,7 @@ fn put(alloc: Global, owner: Owner, key: &Key, content: &Data) -> Due
                 owner,
                 call: Call::Put { key, bytes },
                 asked: AskedCall::Put { key: told, length },
+                question: None,
             }
         }
         Err(_) => Due::NoMemory,
@@ -190,21 +199,21 @@ fn owner_of(line: u32, request: &Request, handle: Option<&Handle>) -> Owner
     }
 }
 
-/// What is due of a line by its request, the live handle that it names, and the answers that its own calls got,
-/// the last one apart.
+/// What is due of a line by its request, the live handle that it names, and what it has heard of its own calls,
+/// the last answer apart.
 pub fn due_of(
     alloc: Global,
     line: u32,
     handle: Option<&Handle>,
     request: &Request,
-    answers: &[Brief],
-    last: Option<&Brief>,
+    heard: &Heard,
+    last: Option<&Told>,
 ) -> Due
-    ensures means { DueMeans result (owner_for line request.now (option_copied handle.entry)) (next_of (option_copied handle.entry) request.now (answers.now ++ option_to_list (option_copied last.entry))) }
+    ensures means { DueMeans result (owner_for line request.now (option_copied handle.entry)) (next_of (option_copied handle.entry) request.now (with_last (option_copied last.entry) heard.now)) }
     ensures tells { DueTells result }
 {
     let owner = owner_of(line, request, handle);
-    match plan(handle, request, answers, last) {
+    match plan(handle, request, heard, last) {
         Plan::Probe(key) => probe(alloc, owner, key),
         Plan::Head(key) => head(alloc, owner, key),
         Plan::Get { version, from, to } => get(alloc, owner, version, from, to),

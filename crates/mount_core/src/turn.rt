@@ -1,5 +1,6 @@
 ghost use Rattle.std.specs.Prelude.{◌≡◌, ◌≢◌, ◌+◌, List, [], ◌∷◌, ◌++◌, Option, Some, None, OnOk, OnErr};
 ghost use Rattle.mount_model.specs.declared.standing.Standing.{Standing};
+ghost use Rattle.mount_model.specs.Heard.{question_of};
 ghost use Rattle.mount_model.specs.Step.{MayAsk, HasStep};
 ghost use Rattle.mount_model.specs.State.{change_line, line_at, opens};
 ghost use Rattle.mount_model.specs.Conversation.{Opens};
@@ -12,9 +13,10 @@ ghost use Rattle.mount_core.specs.Handles.{Keeps, closed_by};
 use crate::due::Due;
 use crate::handles::name_in;
 use crate::work::Work;
-use bucket_model::{Brief, Call};
+use bucket_model::Call;
 use bytes::Bytes;
-use mount_model::{Ask, AskedCall, Handle, Owner, Reply, Request, Version};
+use mount_model::{Ask, AskedCall, Handle, Owner, Reply, Request, Told, Version};
+use mp_rules::Question;
 use mp_types::Errno;
 use std::alloc::AllocError;
 
@@ -22,7 +24,7 @@ impl Work {
     ghost use Rattle.mount_core.specs.Turn.{Asks, AsksNot, OpensAs, MayGoOn, GoesOn, Answers, heard_last};
 
     /// The last answer, if it stands apart, is kept behind the line's others.
-    fn keep_answer(&mut self, line: u32, last: Option<Brief>) -> Result<(), AllocError>
+    fn keep_answer(&mut self, line: u32, last: Option<Told>) -> Result<(), AllocError>
         ensures ok { OnOk result (self.new.lines ≡ change_line line (heard_last last) self.old.lines) }
         ensures err { OnErr result (self.new.lines ≡ self.old.lines) }
         ensures record_stays { self.new.record ≡ self.old.record }
@@ -32,7 +34,7 @@ impl Work {
         ensures handles_stay { self.new.handles ≡ self.old.handles }
     {
         match last {
-            Some(answer) => self.lines.hear(line, answer),
+            Some(told) => self.lines.hear(line, told),
             None => Ok(()),
         }
     }
@@ -44,11 +46,13 @@ impl Work {
         owner: Owner,
         call: Call,
         asked: AskedCall,
-        last: Option<Brief>,
+        question: Option<Question>,
+        last: Option<Told>,
     ) -> Result<(), AllocError>
         requires begun { HasBegun line self.old.lines }
         requires may { MayAsk self.old.record.steps }
         requires told { asked ≡ asked_of call }
+        requires asks { question ≡ question_of call }
         ensures ok { OnOk result (Asks line owner call last self.old self.new) }
         ensures err { OnErr result (AsksNot line self.old self.new) }
         ensures handles { self.new.handles ≡ self.old.handles }
@@ -58,7 +62,7 @@ impl Work {
         };
         self.record.make_room(room)?;
         self.keep_answer(line, last)?;
-        let job = match self.jobs.ask(line, call) {
+        let job = match self.jobs.ask(line, call, question) {
             Ok(job) => job,
             Err(refused) => return Err(refused),
         };
@@ -124,7 +128,7 @@ impl Work {
 
     /// The line does what is due: it asks, replies, opens, gives these bytes or waits. Where a call or a handle
     /// finds no memory, the reply says so.
-    pub fn go_on(&mut self, line: u32, due: Due, last: Option<Brief>, bytes: Bytes)
+    pub fn go_on(&mut self, line: u32, due: Due, last: Option<Told>, bytes: Bytes)
         requires begun { HasBegun line self.old.lines }
         requires may { MayAsk self.old.record.steps }
         requires tells { DueTells due }
@@ -132,9 +136,12 @@ impl Work {
         ensures { (handles : List Opened) → Keeps self.old.handles handles → GoesOn line last bytes handles self.old self.new }
     {
         match due {
-            Due::Call { owner, call, asked } => match self.ask_call(
-                line, owner, call, asked, last,
-            ) {
+            Due::Call {
+                owner,
+                call,
+                asked,
+                question,
+            } => match self.ask_call(line, owner, call, asked, question, last) {
                 Ok(()) => {}
                 Err(_) => self.reply_line(line, Reply::Failed(Errno::Enomem)),
             },

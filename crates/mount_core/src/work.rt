@@ -1,6 +1,7 @@
 ghost use Rattle.std.specs.Prelude.{◌≡◌, ◌≢◌, ◌+◌, ◌<◌, ◌≤◌, List, [], ◌∷◌, ◌++◌, map, max, true, Option, Some, None, IfOk, option_copied};
 ghost use Rattle.mount_model.specs.declared.event.Event.TheVariants.{Begin, Take, Done};
 ghost use Rattle.mount_model.specs.declared.standing.Phase.TheVariants.{Begun};
+ghost use Rattle.mount_model.specs.Heard.{nothing_heard};
 ghost use Rattle.mount_model.specs.Step.{step_of, HasStep};
 ghost use Rattle.mount_model.specs.State.{opening, change_line, next_at};
 ghost use Rattle.mount_model.specs.Run.{AreRising, startable, is_among, owner_at};
@@ -17,9 +18,9 @@ use crate::due::{Due, due_of};
 use crate::handles::Handles;
 use crate::journal::Journal;
 use bucket_model::{Brief, Call};
-use job_table::Jobs;
+use job_table::{Asker, Jobs};
 use line_table::Lines;
-use mount_model::{Answered, Event, Phase, Reply, Script};
+use mount_model::{Answered, Event, Phase, Reply, Script, Told};
 use std::alloc::{AllocError, Global};
 
 /// The parts of the mount. The record has room for all that lines and jobs still owe it, and a place for the reply
@@ -74,7 +75,7 @@ impl Work {
         requires { is_among line (startable self.old.lines) ≡ true }
         ensures time { self.new.time ≡ max self.old.time time }
         ensures steps { self.new.record.steps ≡ self.old.record.steps ++ step_of (Begin line (max self.old.time time)) ∷ [] }
-        ensures lines { self.new.lines ≡ change_line line (λ phase. Begun []) self.old.lines }
+        ensures lines { self.new.lines ≡ change_line line (λ phase. Begun nothing_heard) self.old.lines }
         ensures jobs { self.new.jobs ≡ self.old.jobs }
         ensures handles { self.new.handles ≡ self.old.handles }
     {
@@ -104,10 +105,10 @@ impl Work {
         call
     }
 
-    /// The step of a job's end begins, and the turn of the line that asked for it.
-    pub fn end_job(&mut self, job: u64, position: u64, answer: Brief) -> u32
+    /// The step of a job's end begins, and the turn of who asked for it.
+    pub fn end_job(&mut self, job: u64, position: u64, answer: Brief) -> Asker
         requires { IsOutIn job self.old.jobs.held }
-        ensures line { (h : Held) → held_at job self.old.jobs.held ≡ Some h → result ≡ h.line }
+        ensures asker { (h : Held) → held_at job self.old.jobs.held ≡ Some h → (result.line ≡ h.line) × (result.question ≡ h.question) }
         ensures time { self.new.time ≡ self.old.time }
         ensures steps { self.new.record.steps ≡ self.old.record.steps ++ step_of (Done job position answer) ∷ [] }
         ensures lines { self.new.lines ≡ self.old.lines }
@@ -120,9 +121,9 @@ impl Work {
             position,
             answer,
         });
-        let line = self.jobs.done(job);
+        let asker = self.jobs.done(job);
         self.owed -= 1;
-        line
+        asker
     }
 
     /// A line gets its reply in the last step.
@@ -137,8 +138,8 @@ impl Work {
         self.owed -= 1;
     }
 
-    /// What is due of a line that has begun, behind the answers so far and this last one.
-    pub fn due(&self, line: u32, last: Option<&Brief>) -> Due
+    /// What is due of a line that has begun, behind what it has heard so far and this last answer.
+    pub fn due(&self, line: u32, last: Option<&Told>) -> Due
         requires { HasBegun line self.now.lines }
         ensures means { (handles : List Opened) → Keeps self.now.handles handles → DueMeans result (owner_at handles line (change_line line (heard_last (option_copied last.entry)) self.now.lines)) (next_at handles line (change_line line (heard_last (option_copied last.entry)) self.now.lines)) }
         ensures tells { DueTells result }
@@ -147,12 +148,12 @@ impl Work {
             unreachable!()
         };
         match &standing.phase {
-            Phase::Begun(answers) => due_of(
+            Phase::Begun(heard) => due_of(
                 self.alloc,
                 line,
                 self.handles.named(&standing.line),
                 &standing.line.request,
-                answers.as_slice(),
+                heard,
                 last,
             ),
             Phase::Waiting => unreachable!(),

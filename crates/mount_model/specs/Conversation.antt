@@ -1,15 +1,20 @@
--- What a line does next, by the handle that it names and the answers that its own calls have got so far.
+-- What a line does next, by the handle that it names and what it has heard of its own calls so far.
 use Rattle.std.specs.Prelude.{ℕ, ◌+◌, List, [], ◌∷◌, ◌++◌, min, ◌||◌, ◌==◌, nat_le, if◌then◌else◌, Option, Some, None, Result, Ok, Err}
 use Rattle.mp_types.specs.declared.errno.Errno.{Errno}
-use Rattle.mp_types.specs.declared.errno.Errno.TheVariants.{Eio, Ebadf, Enomem, Enoent, Enotdir, Eisdir, Einval, Enametoolong, Estale}
+use Rattle.mp_types.specs.declared.errno.Errno.TheVariants.{Eio, Ebadf, Enomem, Enoent, Eisdir, Einval, Enametoolong, Estale}
 use Rattle.mp_types.specs.declared.path.PathFault.{PathFault}
 use Rattle.mp_types.specs.declared.path.PathFault.TheVariants as fault
 use Rattle.mp_types.specs.Content.{bytes_of}
-use Rattle.mp_types.specs.Path.{path_of, slash}
+use Rattle.mp_types.specs.Path.{path_of, joined}
+use Rattle.mp_rules.specs.declared.entry.Entry.{Entry}
+use Rattle.mp_rules.specs.declared.entry.Entry.TheVariants.{Directory, File, Nothing}
+use Rattle.mp_rules.specs.Walk.{Decision, Need, Is, Refused, fact_in, stands_at}
 use Rattle.bucket_model.specs.declared.call.Call.{Call}
 use Rattle.bucket_model.specs.declared.call.Call.TheVariants as call
 use Rattle.bucket_model.specs.declared.answer.Brief.{Brief}
-use Rattle.bucket_model.specs.declared.answer.Brief.TheVariants.{Found, Missing, Yes, No, Bytes, Changed, Gone, Made, NoMemory}
+use Rattle.bucket_model.specs.declared.answer.Brief.TheVariants.{Missing, Bytes, Changed, Gone, Made, NoMemory}
+use Rattle.mount_model.specs.declared.standing.Heard.{Heard}
+use Rattle.mount_model.specs.Heard.{call_of}
 use Rattle.mount_model.specs.declared.handle.Handle.{Handle}
 use Rattle.mount_model.specs.declared.handle.Version.{Version}
 use Rattle.mount_model.specs.declared.request.Request.{Request}
@@ -52,67 +57,34 @@ delete_next key [] = Asks (call.Delete key)
 delete_next key (Gone ∷ answers) = Replies reply.Gone
 delete_next key (answer ∷ answers) = fails (errno_of answer)
 
--- what stands at a path
-pub data Entry : Type 0 where
-  Directory : Entry
-  File : Version → Entry
-  Nothing : Entry
-
--- no key is below the last path: a file, or nothing
-abbrev pub file_next : (Entry → Next) → List ℕ → List Brief → Next
-file_next at key [] = Asks (call.Head key)
-file_next at key (Found etag size ∷ answers) = at (File (record { key = key; etag = etag; size = size }))
-file_next at key (Missing ∷ answers) = at Nothing
-file_next at key (answer ∷ answers) = fails (errno_of answer)
-
--- the last path: first whether it is a directory, since a directory hides a file of its name
-abbrev pub entry_next : (Entry → Next) → List ℕ → List Brief → Next
-entry_next at key [] = Asks (call.Probe key)
-entry_next at key (Yes ∷ answers) = at Directory
-entry_next at key (No ∷ answers) = file_next at key answers
-entry_next at key (answer ∷ answers) = fails (errno_of answer)
-
--- a proper prefix that is no directory: a file or nothing, and below it is nothing
-abbrev pub blocked_next : List ℕ → List Brief → Next
-blocked_next key [] = Asks (call.Head key)
-blocked_next key (Found etag size ∷ answers) = fails Enotdir
-blocked_next key (Missing ∷ answers) = fails Enoent
-blocked_next key (answer ∷ answers) = fails (errno_of answer)
-
--- a proper prefix has to be a directory
-abbrev pub prefix_next : (List Brief → Next) → List ℕ → List Brief → Next
-prefix_next below key [] = Asks (call.Probe key)
-prefix_next below key (Yes ∷ answers) = below answers
-prefix_next below key (No ∷ answers) = blocked_next key answers
-prefix_next below key (answer ∷ answers) = fails (errno_of answer)
-
--- the walk from the left: the path of this key, and then the names below it
-abbrev pub walk : (Entry → Next) → List ℕ → List (List ℕ) → List Brief → Next
-walk at key [] answers = entry_next at key answers
-walk at key (name ∷ names) answers = prefix_next (walk at (key ++ slash ∷ name) names) key answers
+-- A request goes by what stands at its path, once the questions on the way are answered. One that failed ends it.
+abbrev pub at_path : (Entry → Next) → Decision → List Brief → Next
+at_path at decision (answer ∷ answers) = fails (errno_of answer)
+at_path at (Need question) [] = Asks (call_of question)
+at_path at (Is entry) [] = at entry
+at_path at (Refused errno) [] = fails errno
 
 abbrev pub stat_at : Entry → Next
 stat_at Directory = Replies reply.Directory
-stat_at (File version) = Replies (reply.File version.size)
+stat_at (File etag size) = Replies (reply.File size)
 stat_at Nothing = fails Enoent
 
 -- what stands at a path: a faulty path and the root need no call
-abbrev pub stat_next : Result (List (List ℕ)) PathFault → List Brief → Next
-stat_next (Err why) answers = fails (errno_of_path why)
-stat_next (Ok []) answers = stat_at Directory
-stat_next (Ok (name ∷ names)) answers = walk stat_at name names answers
+abbrev pub stat_next : Result (List (List ℕ)) PathFault → Heard → Next
+stat_next (Err why) heard = fails (errno_of_path why)
+stat_next (Ok names) heard = at_path stat_at (stands_at (fact_in heard.facts) names) heard.answers
 
-abbrev pub open_at : Entry → Next
-open_at Directory = fails Eisdir
-open_at (File version) = Opens version
-open_at Nothing = fails Enoent
+-- a file is opened as its Head found it
+abbrev pub open_at : List ℕ → Entry → Next
+open_at key Directory = fails Eisdir
+open_at key (File etag size) = Opens (record { key = key; etag = etag; size = size })
+open_at key Nothing = fails Enoent
 
 -- an open for reading: behind the path's own faults, the handle's name has to be free
-abbrev pub open_next : Option Handle → Result (List (List ℕ)) PathFault → List Brief → Next
-open_next live (Err why) answers = fails (errno_of_path why)
-open_next (Some handle) (Ok names) answers = fails Einval
-open_next None (Ok []) answers = open_at Directory
-open_next None (Ok (name ∷ names)) answers = walk open_at name names answers
+abbrev pub open_next : Option Handle → Result (List (List ℕ)) PathFault → Heard → Next
+open_next live (Err why) heard = fails (errno_of_path why)
+open_next (Some handle) (Ok names) heard = fails Einval
+open_next None (Ok names) heard = at_path (open_at (joined names)) (stands_at (fact_in heard.facts) names) heard.answers
 
 -- a range of at least one byte, from its start to before its end
 pub record Range : Type 0 where
@@ -142,11 +114,11 @@ close_next None = fails Ebadf
 close_next (Some handle) = Replies reply.Success
 
 -- what a line does next, where the handle that it names, if it names one, is this
-abbrev pub next_of : Option Handle → Request → List Brief → Next
-next_of handle (Put key content) answers = put_next key (bytes_of content) answers
-next_of handle Await answers = Waits
-next_of handle (Stat path) answers = stat_next (path_of path) answers
-next_of handle (OpenRead name path) answers = open_next handle (path_of path) answers
-next_of handle (Read name offset count) answers = read_next handle offset count answers
-next_of handle (Close name) answers = close_next handle
-next_of handle (Delete key) answers = delete_next key answers
+abbrev pub next_of : Option Handle → Request → Heard → Next
+next_of handle (Put key content) heard = put_next key (bytes_of content) heard.answers
+next_of handle Await heard = Waits
+next_of handle (Stat path) heard = stat_next (path_of path) heard
+next_of handle (OpenRead name path) heard = open_next handle (path_of path) heard
+next_of handle (Read name offset count) heard = read_next handle offset count heard.answers
+next_of handle (Close name) heard = close_next handle
+next_of handle (Delete key) heard = delete_next key heard.answers

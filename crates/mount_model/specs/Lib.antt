@@ -1,5 +1,6 @@
 pub mod Conversation
 pub mod Handles
+pub mod Heard
 pub mod Reads
 pub mod RecordText
 pub mod Replies

@@ -40,7 +40,7 @@ startable_from busy (s ∷ lines) = by_phase s.phase (startable_from busy lines)
   where
     by_phase : Phase → List ℕ → List ℕ → List ℕ
     by_phase Waiting same more = if is_among s.line.actor busy then same else s.line.number ∷ more
-    by_phase (Begun answers) same more = more
+    by_phase (Begun heard) same more = more
     by_phase Replied same more = same
 
 -- the numbers of the lines that may begin, in order
@@ -135,7 +135,7 @@ due_awaits (s ∷ lines) = by_phase s.phase (due_awaits lines)
   where
     by_phase : Phase → List Answered → List Answered
     by_phase Waiting more = []
-    by_phase (Begun answers) more = by_request s.line.request
+    by_phase (Begun heard) more = by_request s.line.request
       where
         by_request : Request → List Answered
         by_request (request.Put key content) = []

@@ -1,15 +1,17 @@
 -- The script that bytes spell, or the first line that spells none, and why.
-use Rattle.std.specs.Prelude.{ℕ, ◌+◌, ◌-◌, ◌*◌, ◌^◌, List, [], ◌∷◌, length, fold, Bool, true, not, ◌&&◌, ◌||◌, ◌==◌, nat_eq, nat_le, nat_lt, if◌then◌else◌, codes, Result, Ok, Err}
+use Rattle.std.specs.Prelude.{ℕ, ◌+◌, ◌-◌, ◌*◌, ◌^◌, List, [], ◌∷◌, length, fold, Bool, true, not, ◌&&◌, ◌||◌, ◌==◌, nat_eq, nat_le, nat_lt, if◌then◌else◌, codes, Result, Ok, Err, unwrap_or}
 use Rattle.std.specs.List.{list_any, list_all, slice_split, onto_first}
 use Rattle.std.specs.Cmp.Lexicographic.{pointwise}
+use Rattle.std.specs.Str.{is_utf8}
+use Rattle.hex.specs.Hex.{is_hex_digit, hex_digit_value, decode_of}
+use Rattle.hex.specs.declared.error.FromHexError.{FromHexError}
 use Rattle.mp_types.specs.declared.octets.Data.{Data}
-use Rattle.mp_types.specs.declared.octets.Data.TheVariants.{Literal}
-use Rattle.mp_types.specs.declared.path.PathFault.{PathFault}
-use Rattle.mp_types.specs.Path.{path_of}
+use Rattle.mp_types.specs.declared.octets.Data.TheVariants.{Literal, Pattern}
+use Rattle.mp_types.specs.Content.{bytes_of}
 use Rattle.mount_model.specs.declared.fault.ScriptCause.{ScriptCause}
 use Rattle.mount_model.specs.declared.fault.ScriptCause.TheVariants as cause
 use Rattle.mount_model.specs.declared.fault.What.{What}
-use Rattle.mount_model.specs.declared.fault.What.TheVariants.{Lines, Reads}
+use Rattle.mount_model.specs.declared.fault.What.TheVariants.{Lines, Reads, Data as Stored}
 use Rattle.mount_model.specs.declared.request.Request.{Request}
 use Rattle.mount_model.specs.declared.request.Request.TheVariants.{Put, Await, Stat, OpenRead, Read, Close, Delete}
 use Rattle.mount_model.specs.declared.request.Line.{Line}
@@ -31,6 +33,10 @@ max_lines = 65536
 -- its reads ask for at most this many bytes together
 abbrev pub max_read_bytes : ℕ
 max_read_bytes = 268435456
+
+-- and it gives at most this many bytes to be stored
+abbrev pub max_given_bytes : ℕ
+max_given_bytes = 268435456
 
 -- lines end at line feeds; a last line without one counts
 abbrev pub lines_of : List ℕ → List (List ℕ)
@@ -65,36 +71,74 @@ handle_word word = if is_number word && nat_le (number_of word) 65535 then Ok (n
 abbrev pub number_word : List ℕ → Result ℕ ScriptCause
 number_word word = if is_number word && nat_lt (number_of word) (2 ^ 63) then Ok (number_of word) else Err cause.Number
 
--- texts: today each byte has to stand for itself
-abbrev pub plain_of : List ℕ → Result (List ℕ) ScriptCause
-plain_of word = if list_all is_plain word then Ok word else Err cause.Escape
+-- Escaped text: a byte that stands for itself is printable and not `%`, or lies beyond ASCII.
+abbrev pub stands_for_itself : ℕ → Bool
+stands_for_itself byte = is_plain byte || nat_le 128 byte
+
+-- `%` and two hexadecimal digits of either case
+abbrev pub is_escape : ℕ → ℕ → ℕ → Bool
+is_escape first high low = first == 37 && is_hex_digit high && is_hex_digit low
+
+-- the byte that two hexadecimal digits spell
+abbrev pub spelled : ℕ → ℕ → ℕ
+spelled high low = unwrap_or (hex_digit_value high) 0 * 16 + unwrap_or (hex_digit_value low) 0
+
+abbrev pub onto : ℕ → Result (List ℕ) ScriptCause → Result (List ℕ) ScriptCause
+onto byte (Ok bytes) = Ok (byte ∷ bytes)
+onto byte (Err why) = Err why
+
+abbrev pub itself_onto : ℕ → Result (List ℕ) ScriptCause → Result (List ℕ) ScriptCause
+itself_onto byte rest = if stands_for_itself byte then onto byte rest else Err cause.Escape
+
+-- what escaped bytes stand for
+abbrev pub unescaped : List ℕ → Result (List ℕ) ScriptCause
+unescaped [] = Ok []
+unescaped (byte ∷ []) = itself_onto byte (Ok [])
+unescaped (byte ∷ next ∷ []) = itself_onto byte (unescaped (next ∷ []))
+unescaped (byte ∷ high ∷ low ∷ bytes) =
+    if is_escape byte high low then onto (spelled high low) (unescaped bytes)
+    else itself_onto byte (unescaped (high ∷ low ∷ bytes))
+
+-- a single `%` is the empty text
+abbrev pub escaped_bytes : List ℕ → Result (List ℕ) ScriptCause
+escaped_bytes word = if pointwise nat_eq word (37 ∷ []) then Ok [] else unescaped word
+
+abbrev pub text_of : List ℕ → Result (List ℕ) ScriptCause
+text_of word = do
+  text ← escaped_bytes word
+  if is_utf8 text then Ok text else Err cause.Utf8
 
 abbrev pub key_of : List ℕ → Result (List ℕ) ScriptCause
 key_of word = do
-  text ← plain_of word
+  text ← text_of word
   if length text == 0 || nat_lt 1024 (length text) then Err cause.Key else Ok text
 
--- `t` and the bytes
+-- data: escaped bytes
 abbrev pub literal_of : List ℕ → Result Data ScriptCause
-literal_of [] = Err cause.Data
-literal_of (byte ∷ bytes) = if byte == 116 then Ok (Literal bytes) else Err cause.Data
+literal_of word = do
+  bytes ← escaped_bytes word
+  Ok (Literal bytes)
 
+-- data: hexadecimal digits
+abbrev pub hex_of : Result (List ℕ) FromHexError → Result Data ScriptCause
+hex_of (Ok bytes) = Ok (Literal bytes)
+hex_of (Err why) = Err cause.Data
+
+-- data: a seed, `:` and how many bytes
+abbrev pub pattern_of : List (List ℕ) → Result Data ScriptCause
+pattern_of (seed ∷ count ∷ []) =
+    if is_number seed && nat_lt (number_of seed) (2 ^ 32) && (is_number count && nat_lt (number_of count) (2 ^ 63))
+    then Ok (Pattern (number_of seed) (number_of count))
+    else Err cause.Data
+pattern_of words = Err cause.Data
+
+-- the form of data is its first byte: `t`, `x` or `g`
 abbrev pub content_of : List ℕ → Result Data ScriptCause
-content_of word = do
-  text ← plain_of word
-  literal_of text
-
--- a path of one name, or a faulty one, which its request answers; other paths aren't served yet
-abbrev pub served : List ℕ → Result (List (List ℕ)) PathFault → Result (List ℕ) ScriptCause
-served text (Err fault) = Ok text
-served text (Ok []) = Err cause.Path
-served text (Ok (name ∷ [])) = Ok text
-served text (Ok (name ∷ next ∷ names)) = Err cause.Path
-
-abbrev pub path_word : List ℕ → Result (List ℕ) ScriptCause
-path_word word = do
-  text ← plain_of word
-  served text (path_of text)
+content_of [] = Err cause.Data
+content_of (form ∷ word) =
+    if form == 116 then literal_of word
+    else (if form == 120 then hex_of (decode_of word)
+    else (if form == 103 then pattern_of (slice_split (λ byte. byte == 58) word) else Err cause.Data))
 
 abbrev pub put_of : List (List ℕ) → Result Request ScriptCause
 put_of (key ∷ content ∷ []) = do
@@ -105,14 +149,14 @@ put_of words = Err cause.Words
 
 abbrev pub stat_of : List (List ℕ) → Result Request ScriptCause
 stat_of (path ∷ []) = do
-  p ← path_word path
+  p ← text_of path
   Ok (Stat p)
 stat_of words = Err cause.Words
 
 abbrev pub open_of : List (List ℕ) → Result Request ScriptCause
 open_of (handle ∷ path ∷ []) = do
   h ← handle_word handle
-  p ← path_word path
+  p ← text_of path
   Ok (OpenRead h p)
 open_of words = Err cause.Words
 
@@ -213,15 +257,31 @@ abbrev pub bytes_asked : List Line → ℕ
 bytes_asked [] = 0
 bytes_asked (line ∷ lines) = count_in line.request + bytes_asked lines
 
+-- how many bytes a request gives to be stored
+abbrev pub given_in : Request → ℕ
+given_in (Put key content) = length (bytes_of content)
+given_in (Read name offset count) = 0
+given_in Await = 0
+given_in (Stat path) = 0
+given_in (OpenRead name path) = 0
+given_in (Close name) = 0
+given_in (Delete key) = 0
+
+abbrev pub bytes_given : List Line → ℕ
+bytes_given [] = 0
+bytes_given (line ∷ lines) = given_in line.request + bytes_given lines
+
 -- why bytes spell no script
 pub data Refusal : Type 0 where
   Bad : ℕ → ScriptCause → Refusal
   TooLong : What → Refusal
 
-abbrev pub with_reads_checked : Result (List Line) BadLine → Result (List Line) Refusal
-with_reads_checked (Err bad) = Err (Bad bad.line bad.cause)
-with_reads_checked (Ok lines) = if nat_lt max_read_bytes (bytes_asked lines) then Err (TooLong Reads) else Ok lines
+abbrev pub with_sums_checked : Result (List Line) BadLine → Result (List Line) Refusal
+with_sums_checked (Err bad) = Err (Bad bad.line bad.cause)
+with_sums_checked (Ok lines) =
+    if nat_lt max_read_bytes (bytes_asked lines) then Err (TooLong Reads)
+    else (if nat_lt max_given_bytes (bytes_given lines) then Err (TooLong Stored) else Ok lines)
 
--- the count of lines is looked at first, then each line, and then the reads together
+-- the count of lines is looked at first, then each line, and then the reads and the data together
 abbrev pub script_of : List ℕ → Result (List Line) Refusal
-script_of bytes = if nat_lt max_lines (length (lines_of bytes)) then Err (TooLong Lines) else with_reads_checked (script_from 1 (lines_of bytes))
+script_of bytes = if nat_lt max_lines (length (lines_of bytes)) then Err (TooLong Lines) else with_sums_checked (script_from 1 (lines_of bytes))

@@ -19,7 +19,9 @@ use Rattle.mount_model.specs.declared.event.Answered.{Answered}
 use Rattle.mount_model.specs.declared.standing.Phase.{Phase}
 use Rattle.mount_model.specs.declared.standing.Phase.TheVariants.{Waiting, Begun, Replied}
 use Rattle.mount_model.specs.declared.standing.Standing.{Standing}
+use Rattle.mount_model.specs.declared.standing.Told.{Told}
 use Rattle.mount_model.specs.Step.{Step}
+use Rattle.mount_model.specs.Heard.{nothing_heard, with_told, question_of, told_by}
 use Rattle.mount_model.specs.Conversation.{Next, Asks, Replies, Opens, Gives, Waits, next_of}
 use Rattle.mount_model.specs.Handles.{Opened, name_in, handle_of, with_handle, without_handle}
 
@@ -70,18 +72,18 @@ time_after old (Take job time from) = time
 time_after old (Done job position answer) = old
 
 -- one more answer to a line's own calls
-abbrev pub heard : Brief → Phase → Phase
-heard answer Waiting = Waiting
-heard answer (Begun answers) = Begun (answers ++ answer ∷ [])
-heard answer Replied = Replied
+abbrev pub heard : Told → Phase → Phase
+heard told Waiting = Waiting
+heard told (Begun before) = Begun (with_told told before)
+heard told Replied = Replied
 
 abbrev pub hears : Option Job → Brief → List Standing → List Standing
 hears None answer lines = lines
-hears (Some job) answer lines = change_line job.line (heard answer) lines
+hears (Some job) answer lines = change_line job.line (heard (told_by (question_of job.call) answer)) lines
 
 -- what the event itself does to the lines
 abbrev pub lines_at : List Standing → List Job → Event → List Standing
-lines_at lines jobs (Begin line time) = change_line line (λ phase. Begun []) lines
+lines_at lines jobs (Begin line time) = change_line line (λ phase. Begun nothing_heard) lines
 lines_at lines jobs (Take job time from) = lines
 lines_at lines jobs (Done job position answer) = hears (job_at job jobs) answer lines
 
@@ -97,7 +99,7 @@ next_in handles s = by_phase s.phase
   where
     by_phase : Phase → Next
     by_phase Waiting = Waits
-    by_phase (Begun answers) = next_of (handle_of s.line handles) s.line.request answers
+    by_phase (Begun heard) = next_of (handle_of s.line handles) s.line.request heard
     by_phase Replied = Waits
 
 abbrev pub next_at : List Opened → ℕ → List Standing → Next

@@ -11,14 +11,14 @@ pub enum ScriptCause {
     Handle,
     /// An offset or a count isn't a number below 2^63.
     Number,
-    /// A word has `%` or a byte that doesn't stand for itself.
+    /// A word has a `%` without two hexadecimal digits behind it, or a byte that doesn't stand for itself.
     Escape,
-    /// A key has more than 1,024 bytes.
+    /// A key or a path isn't UTF-8.
+    Utf8,
+    /// A key is empty or has more than 1,024 bytes.
     Key,
-    /// Data isn't `t` and its bytes.
+    /// Data has none of its three forms.
     Data,
-    /// The path is the root or has more than one name, which isn't served yet.
-    Path,
 }
 
 /// What there is too much of in a script.
@@ -30,4 +30,6 @@ pub enum What {
     Lines,
     /// Reads that ask for more than 268,435,456 bytes together.
     Reads,
+    /// Data of more than 268,435,456 bytes together.
+    Data,
 }

@@ -1,14 +1,35 @@
+ghost use Rattle.std.specs.Prelude.{◌≡◌, OnOk, OnErr, IfOk};
+ghost use Rattle.mount_model.specs.Heard.{nothing_heard, with_told, told_by, question_of};
+
 use crate::Line;
-use bucket_model::Brief;
+use bucket_model::{Brief, Call};
+use mp_rules::{Fact, Known, OwnFacts, Question};
 use mp_types::Items;
+use std::alloc::{AllocError, Global};
+
+/// What a line has heard of its own calls.
+#[derive(Debug, Drop)]
+pub struct Heard {
+    /// The answers to its questions.
+    pub facts: OwnFacts,
+    /// All other answers: those of calls that are no questions, and of questions that failed.
+    pub answers: Items<Brief>,
+}
+
+/// What one answer tells a line.
+#[derive(Debug, Drop)]
+pub enum Told {
+    Fact(Known),
+    Answer(Brief),
+}
 
 /// How far a line has come.
 #[derive(Debug, Drop)]
 pub enum Phase {
     /// It hasn't begun.
     Waiting,
-    /// It has begun, and its own calls were answered so.
-    Begun(Items<Brief>),
+    /// It has begun, and heard this of its own calls.
+    Begun(Heard),
     /// It has its reply.
     Replied,
 }
@@ -18,4 +39,75 @@ pub enum Phase {
 pub struct Standing {
     pub line: Line,
     pub phase: Phase,
+}
+
+impl Heard {
+    /// Nothing. Takes no memory.
+    pub fn new(alloc: Global) -> Self
+        ensures { result ≡ nothing_heard }
+    {
+        Heard {
+            facts: OwnFacts::new(alloc),
+            answers: Items::new(alloc),
+        }
+    }
+
+    /// One more answer. An error changes nothing.
+    pub fn hear(&mut self, told: Told) -> Result<(), AllocError>
+        ensures ok { OnOk result (self.new ≡ with_told told self.old) }
+        ensures err { OnErr result (self.new ≡ self.old) }
+    {
+        match told {
+            Told::Fact(known) => self.facts.add(known),
+            Told::Answer(answer) => match self.answers.push(answer) {
+                Ok(()) => Ok(()),
+                Err(_) => Err(AllocError),
+            },
+        }
+    }
+}
+
+// The fact that an answer to a question tells.
+fn fact_of(answer: &Brief) -> Option<Fact>
+    ensures { result ≡ Rattle.mount_model.specs.Heard.fact_of answer.now }
+{
+    match answer {
+        Brief::Found { etag, size } => Some(Fact::Found {
+            etag: etag.copy(),
+            size: *size,
+        }),
+        Brief::Missing => Some(Fact::Missing),
+        Brief::Yes => Some(Fact::Yes),
+        Brief::No => Some(Fact::No),
+        Brief::Bytes { .. }
+        | Brief::Changed
+        | Brief::Gone
+        | Brief::Made(_)
+        | Brief::Fault
+        | Brief::NoMemory => None,
+    }
+}
+
+/// What the answer to a call tells, where this is the question that the call asks, if it asks one. Takes no memory.
+pub fn told_by(question: Option<Question>, answer: Brief) -> Told
+    ensures { result ≡ told_by question answer }
+{
+    match question {
+        None => Told::Answer(answer),
+        Some(question) => match fact_of(&answer) {
+            Some(fact) => Told::Fact(Known { question, fact }),
+            None => Told::Answer(answer),
+        },
+    }
+}
+
+/// The question that a call asks, if it asks one.
+pub fn question_of(alloc: Global, call: &Call) -> Result<Option<Question>, AllocError>
+    ensures { IfOk result (λ question. question ≡ question_of call.now) }
+{
+    match call {
+        Call::Head { key } => Ok(Some(Question::Head(key.copy(alloc)?))),
+        Call::Probe { key } => Ok(Some(Question::Probe(key.copy(alloc)?))),
+        Call::Get { .. } | Call::Delete { .. } | Call::Put { .. } => Ok(None),
+    }
 }

@@ -2,7 +2,7 @@
 use Rattle.std.specs.Prelude.{◌≡◌, ℕ, ◌<◌, ◌≤◌, List, [], ◌∷◌, length, codes, Option, Some, None, Ok, Err, ◌⊎◌}
 use Rattle.bucket_model.specs.History.{History}
 use Rattle.mount_model.specs.declared.fault.What.{What}
-use Rattle.mount_model.specs.declared.fault.What.TheVariants.{Bytes, Lines, Reads}
+use Rattle.mount_model.specs.declared.fault.What.TheVariants.{Bytes, Lines, Reads, Data}
 use Rattle.mount_model.specs.declared.request.Line.{Line}
 use Rattle.mount_model.specs.Step.{Step}
 use Rattle.mount_model.specs.Run.{IsRun}
@@ -29,12 +29,13 @@ abbrev pub SpellsNone : Option (List ℕ) → Refusal → Type 0
 SpellsNone None why = Unit {0}
 SpellsNone (Some bytes) why = (length bytes ≤ max_script_bytes) × (script_of bytes ≡ Err why)
 
--- there is too much of this: of bytes, which aren't read to their end, or of lines or reads, which are counted when they are
+-- there is too much of this: of bytes, which aren't read to their end, or of lines, reads or data, which are counted when they are
 abbrev pub IsTooLong : Option (List ℕ) → What → Type 0
 IsTooLong None what = Unit {0}
 IsTooLong (Some bytes) Bytes = max_script_bytes < length bytes
 IsTooLong (Some bytes) Lines = SpellsNone (Some bytes) (text.TooLong Lines)
 IsTooLong (Some bytes) Reads = SpellsNone (Some bytes) (text.TooLong Reads)
+IsTooLong (Some bytes) Data = SpellsNone (Some bytes) (text.TooLong Data)
 
 -- The steps are a run of the script that the input spells, tied call by call to the store's history from its
 -- opening length on. Each read gives bytes of the version that its handle opened, and at most as many calls are

@@ -8,6 +8,8 @@ ghost use Rattle.std.specs.declared.io.ErrorKind.TheVariants.{OutOfMemory};
 ghost use Rattle.mount_one.specs.Statuses.{IsUnread};
 
 mod message;
+#[cfg(test)]
+mod path_tests;
 mod reading;
 mod served;
 mod status;

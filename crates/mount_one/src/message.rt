@@ -15,9 +15,9 @@ fn cause_text(cause: ScriptCause) -> &'static str
         ScriptCause::Handle => "handle",
         ScriptCause::Number => "number",
         ScriptCause::Escape => "escape",
+        ScriptCause::Utf8 => "utf8",
         ScriptCause::Key => "key",
         ScriptCause::Data => "data",
-        ScriptCause::Path => "path",
     }
 }
 
@@ -28,6 +28,7 @@ fn what_text(what: What) -> &'static str
         What::Bytes => "bytes",
         What::Lines => "lines",
         What::Reads => "reads",
+        What::Data => "data",
     }
 }
 

@@ -17,10 +17,10 @@ const FIRST_RECORD: &str =
     "B 1 0\nA 1 L1 put a 5\nT 1 0 0\nD 1 0 made v1\nR 1 made v1\nB 2 0\nR 2 ok\nB 3 0\nA 2 L3 probe a\nT 2 0 1\nD 2 1 no\nA 3 L3 head a\nT 3 0 2\nD 3 2 found v1 5\nR 3 file 5\n";
 
 #[derive(Drop)]
-struct Outcome {
-    status: Status,
-    written: Vec<u8>,
-    position: u64,
+pub struct Outcome {
+    pub status: Status,
+    pub written: Vec<u8>,
+    pub position: u64,
 }
 
 // One run over this store, with a clock of 0.
@@ -52,7 +52,7 @@ fn run_with<T: Store>(
 }
 
 // The same over an empty bucket.
-fn run_over(
+pub fn run_over(
     alloc: Global,
     words: &[&str],
     source: MemSource,
@@ -75,7 +75,7 @@ fn replies_in(alloc: Global, record: &[u8]) -> Result<Vec<u8>, Fail> {
 }
 
 // Serves a script over this store to its end, and compares its replies.
-fn assert_replies<T: Store>(
+pub fn assert_replies<T: Store>(
     rt: &impl Abort,
     alloc: Global,
     script: &str,
@@ -95,12 +95,12 @@ fn assert_replies<T: Store>(
     Ok(())
 }
 
-fn source_of(alloc: Global, text: &str) -> Result<MemSource, Fail> {
+pub fn source_of(alloc: Global, text: &str) -> Result<MemSource, Fail> {
     let bytes = text.as_bytes().to_vec(alloc)?;
     Ok(MemSource::new(bytes, 4096, Vec::new(alloc)))
 }
 
-fn roomy_sink(alloc: Global) -> Result<MemSink, Fail> {
+pub fn roomy_sink(alloc: Global) -> Result<MemSink, Fail> {
     Ok(MemSink::new(alloc, 4096, 4096, Vec::new(alloc))?)
 }
 
@@ -198,7 +198,7 @@ fn one_byte_too_many_is_refused(rt: HostRuntime) -> Result<(), Fail> {
     Ok(())
 }
 
-fn assert_too_long(
+pub fn assert_too_long(
     rt: &impl Abort,
     alloc: Global,
     script: Vec<u8>,
@@ -227,6 +227,13 @@ fn one_byte_too_many_to_read_is_refused(rt: HostRuntime) -> Result<(), Fail> {
     let alloc = rt.alloc();
     let script = b"1 read 1 0 268435457\n".to_vec(alloc)?;
     assert_too_long(&rt, alloc, script, What::Reads)
+}
+
+#[test]
+fn one_byte_too_many_to_store_is_refused(rt: HostRuntime) -> Result<(), Fail> {
+    let alloc = rt.alloc();
+    let script = b"0 put a g0:268435457\n".to_vec(alloc)?;
+    assert_too_long(&rt, alloc, script, What::Data)
 }
 
 #[test]

@@ -1,5 +1,2 @@
-pub mod Faults
 pub mod Firsts
-pub mod Hears
-pub mod Paths
-pub mod Stops
+pub mod Looks

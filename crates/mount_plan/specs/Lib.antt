@@ -1,3 +1,3 @@
+pub mod Last
+pub mod Looked
 pub mod Meant
-pub mod Names
-pub mod Walk

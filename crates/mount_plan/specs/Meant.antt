@@ -1,7 +1,10 @@
 -- What a plan says that a line does next.
-use Rattle.std.specs.Prelude.{◌≡◌, ◌<◌, ◌≤◌, length}
+use Rattle.std.specs.Prelude.{◌≡◌, ◌<◌, ◌≤◌, length, Option, None, Some}
 use Rattle.mp_types.specs.Content.{bytes_of}
 use Rattle.bucket_model.specs.declared.call.Call.TheVariants as call
+use Rattle.mount_model.specs.declared.standing.Heard.{Heard}
+use Rattle.mount_model.specs.declared.standing.Told.{Told}
+use Rattle.mount_model.specs.Heard.{with_told}
 use Rattle.mount_model.specs.Conversation.{Next, Asks, Replies, Opens, Gives, Waits}
 use Rattle.mount_plan.specs.declared.planned.Plan.{Plan}
 use Rattle.mount_plan.specs.declared.planned.Plan.TheVariants.{Probe, Head, Get, Put, Delete, Reply, Open, Give, Wait}
@@ -17,3 +20,8 @@ Means (Reply said) next = next ≡ Replies said
 Means (Open key etag size) next = (next ≡ Opens (record { key = key.now; etag = etag; size = size })) × (0 < length key.now) × (length key.now ≤ 1024)
 Means (Give count) next = next ≡ Gives count
 Means Wait next = next ≡ Waits
+
+-- what a line has heard, with its last answer
+abbrev pub with_last : Option Told → Heard → Heard
+with_last None heard = heard
+with_last (Some told) heard = with_told told heard

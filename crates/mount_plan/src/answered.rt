@@ -1,14 +1,38 @@
-ghost use Rattle.std.specs.Prelude.{◌≡◌, ◌++◌, option_copied, option_to_list, slice_get};
+ghost use Rattle.std.specs.Prelude.{◌≡◌, option_copied, option_to_list, slice_get};
 ghost use Rattle.mount_model.specs.Conversation.{errno_of};
+ghost use Rattle.mount_plan.specs.Meant.{with_last};
+ghost use Rattle.mount_plan.specs.Last.{last_answer, last_fact};
 
 use bucket_model::Brief;
+use mount_model::{Heard, Told};
+use mp_rules::Known;
 use mp_types::Errno;
 
-// The answer that a request of one call goes by.
-pub fn first_answer<'a>(answers: &'a [Brief], last: Option<&'a Brief>) -> Option<&'a Brief>
-    ensures { option_copied result ≡ slice_get (answers.now ++ option_to_list (option_copied last.entry)) 0 }
+// The last answer, where it told a fact.
+pub fn last_fact(last: Option<&Told>) -> Option<&Known>
+    ensures { option_copied result ≡ last_fact (option_copied last.entry) }
 {
-    answers.first().or(last)
+    match last {
+        Some(Told::Fact(known)) => Some(known),
+        _ => None,
+    }
+}
+
+// The last answer, where it told no fact.
+fn last_answer(last: Option<&Told>) -> Option<&Brief>
+    ensures { option_copied result ≡ last_answer (option_copied last.entry) }
+{
+    match last {
+        Some(Told::Answer(answer)) => Some(answer),
+        _ => None,
+    }
+}
+
+// The answer that a request goes by where it told no fact.
+pub fn first_answer<'a>(heard: &'a Heard, last: Option<&'a Told>) -> Option<&'a Brief>
+    ensures { option_copied result ≡ slice_get (with_last (option_copied last.entry) heard.now).answers 0 }
+{
+    heard.answers.as_slice().first().or(last_answer(last))
 }
 
 // The error of a call that failed, or whose answer doesn't fit.

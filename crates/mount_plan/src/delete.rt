@@ -1,12 +1,12 @@
-ghost use Rattle.std.specs.Prelude.{◌≡◌, List, ℕ, ◌∷◌, ◌++◌, option_copied, option_to_list};
+ghost use Rattle.std.specs.Prelude.{◌≡◌, List, ℕ, ◌∷◌, option_copied};
 ghost use Rattle.bucket_model.specs.declared.answer.Brief.{Brief};
 ghost use Rattle.mount_model.specs.Conversation.{Replies, delete_next};
-ghost use Rattle.mount_plan.specs.Meant.{Means};
+ghost use Rattle.mount_plan.specs.Meant.{Means, with_last};
 
 use crate::Plan;
 use crate::answered::{errno, first_answer};
 use bucket_model::Brief;
-use mount_model::Reply;
+use mount_model::{Heard, Reply, Told};
 use mp_types::Key;
 
 fn delete_reply(answer: &Brief) -> Reply
@@ -18,10 +18,10 @@ fn delete_reply(answer: &Brief) -> Reply
     }
 }
 
-pub fn delete_plan<'a>(key: &'a Key, answers: &[Brief], last: Option<&Brief>) -> Plan<'a>
-    ensures { Means result (delete_next key.now (answers.now ++ option_to_list (option_copied last.entry))) }
+pub fn delete_plan<'a>(key: &'a Key, heard: &Heard, last: Option<&Told>) -> Plan<'a>
+    ensures { Means result (delete_next key.now (with_last (option_copied last.entry) heard.now).answers) }
 {
-    match first_answer(answers, last) {
+    match first_answer(heard, last) {
         Some(answer) => Plan::Reply(delete_reply(answer)),
         None => Plan::Delete(key),
     }

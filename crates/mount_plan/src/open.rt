@@ -1,61 +1,46 @@
-ghost use Rattle.std.specs.Prelude.{◌≡◌, ◌++◌, List, None, Some, option_copied, option_to_list};
-ghost use Rattle.bucket_model.specs.declared.answer.Brief.{Brief};
+ghost use Rattle.std.specs.Prelude.{◌≡◌, ◌≤◌, length, None, option_copied};
 ghost use Rattle.mp_types.specs.Path.{path_of};
-ghost use Rattle.mount_model.specs.declared.handle.Handle.{Handle};
-ghost use Rattle.mount_model.specs.Conversation.{fails, open_at, open_next};
-ghost use Rattle.mount_plan.specs.Meant.{Means};
-ghost use Rattle.mount_plan.specs.Walk.{HasKey, entry_of};
+ghost use Rattle.mount_model.specs.Conversation.{open_at, open_next};
+ghost use Rattle.mount_plan.specs.Looked.{HasKey};
+ghost use Rattle.mount_plan.specs.Meant.{Means, with_last};
 
 use crate::Plan;
-use crate::lookup::look_up;
-use crate::path::below_root;
+use crate::lookup::{look_up, path_errno};
 use crate::planned::failed;
-use crate::walker::{Target, Walked};
-use bucket_model::Brief;
-use mount_model::Handle;
-use mp_types::Errno;
+use mount_model::{Handle, Heard, Told};
+use mp_rules::Entry;
+use mp_types::{Errno, below_root};
 
-// The error of an open whose name is that of a live handle: a faulty path comes first.
-fn live_errno(path: &str) -> Errno
-    ensures { (live : Handle) (answers : List Brief) → open_next (Some live) (path_of path.now) answers ≡ fails result }
+fn entry_plan(key: &str, entry: Entry) -> Plan<'_>
+    requires some { HasKey entry key.now }
+    requires short { length key.now ≤ 1024 }
+    ensures { Means result (open_at key.now entry) }
 {
-    match below_root(path) {
-        Ok(_) => Errno::Einval,
-        Err(errno) => errno,
+    match entry {
+        Entry::Directory => failed(Errno::Eisdir),
+        Entry::File { etag, size } => Plan::Open { key, etag, size },
+        Entry::Nothing => failed(Errno::Enoent),
     }
 }
 
-fn target_plan(target: Target<'_>) -> Plan<'_>
-    requires { HasKey target }
-    ensures { Means result (open_at (entry_of target.entry)) }
-{
-    match target {
-        Target::Directory => failed(Errno::Eisdir),
-        Target::File { key, etag, size } => Plan::Open { key, etag, size },
-        Target::Nothing => failed(Errno::Enoent),
-    }
-}
-
-fn free_plan<'a>(path: &'a str, answers: &[Brief], last: Option<&Brief>) -> Plan<'a>
-    ensures { Means result (open_next None (path_of path.now) (answers.now ++ option_to_list (option_copied last.entry))) }
-{
-    match look_up(path, answers, last) {
-        Walked::At(walker) => walker.asks(),
-        Walked::Finds(target) => target_plan(target),
-        Walked::Fails(errno) => failed(errno),
-    }
-}
-
+// A faulty path comes before a name that is that of a live handle.
 pub fn open_plan<'a>(
     live: Option<&Handle>,
     path: &'a str,
-    answers: &[Brief],
-    last: Option<&Brief>,
+    heard: &Heard,
+    last: Option<&Told>,
 ) -> Plan<'a>
-    ensures { Means result (open_next (option_copied live.entry) (path_of path.now) (answers.now ++ option_to_list (option_copied last.entry))) }
+    ensures { Means result (open_next (option_copied live.entry) (path_of path.now) (with_last (option_copied last.entry) heard.now)) }
 {
-    match live {
-        Some(_) => failed(live_errno(path)),
-        None => free_plan(path, answers, last),
+    let path = match below_root(path) {
+        Ok(below) => below,
+        Err(why) => return failed(path_errno(why)),
+    };
+    if live.is_some() {
+        return failed(Errno::Einval);
+    }
+    match look_up(path, heard, last) {
+        Ok(entry) => entry_plan(path, entry),
+        Err(plan) => plan,
     }
 }

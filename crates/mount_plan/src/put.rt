@@ -1,13 +1,13 @@
-ghost use Rattle.std.specs.Prelude.{◌≡◌, List, ℕ, ◌∷◌, ◌++◌, option_copied, option_to_list};
+ghost use Rattle.std.specs.Prelude.{◌≡◌, List, ℕ, ◌∷◌, option_copied};
 ghost use Rattle.bucket_model.specs.declared.answer.Brief.{Brief};
 ghost use Rattle.mp_types.specs.Content.{bytes_of};
 ghost use Rattle.mount_model.specs.Conversation.{Replies, put_next};
-ghost use Rattle.mount_plan.specs.Meant.{Means};
+ghost use Rattle.mount_plan.specs.Meant.{Means, with_last};
 
 use crate::Plan;
 use crate::answered::{errno, first_answer};
 use bucket_model::Brief;
-use mount_model::Reply;
+use mount_model::{Heard, Reply, Told};
 use mp_types::{Data, Key};
 
 fn put_reply(answer: &Brief) -> Reply
@@ -19,15 +19,10 @@ fn put_reply(answer: &Brief) -> Reply
     }
 }
 
-pub fn put_plan<'a>(
-    key: &'a Key,
-    content: &'a Data,
-    answers: &[Brief],
-    last: Option<&Brief>,
-) -> Plan<'a>
-    ensures { Means result (put_next key.now (bytes_of content.now) (answers.now ++ option_to_list (option_copied last.entry))) }
+pub fn put_plan<'a>(key: &'a Key, content: &'a Data, heard: &Heard, last: Option<&Told>) -> Plan<'a>
+    ensures { Means result (put_next key.now (bytes_of content.now) (with_last (option_copied last.entry) heard.now).answers) }
 {
-    match first_answer(answers, last) {
+    match first_answer(heard, last) {
         Some(answer) => Plan::Reply(put_reply(answer)),
         None => Plan::Put { key, content },
     }

@@ -1,14 +1,14 @@
-ghost use Rattle.std.specs.Prelude.{◌≡◌, ◌<◌, ◌∷◌, ◌++◌, List, None, Some, MatchOption, option_copied, option_to_list};
+ghost use Rattle.std.specs.Prelude.{◌≡◌, ◌<◌, ◌∷◌, List, None, Some, MatchOption, option_copied};
 ghost use Rattle.bucket_model.specs.declared.answer.Brief.{Brief};
 ghost use Rattle.mount_model.specs.declared.handle.Version.{Version};
 ghost use Rattle.mount_model.specs.Conversation.{Range, range_in, range_next, read_next};
-ghost use Rattle.mount_plan.specs.Meant.{Means};
+ghost use Rattle.mount_plan.specs.Meant.{Means, with_last};
 
 use crate::Plan;
 use crate::answered::{errno, first_answer};
 use crate::planned::failed;
 use bucket_model::Brief;
-use mount_model::{Handle, Version};
+use mount_model::{Handle, Heard, Told, Version};
 use mp_types::Errno;
 
 // The first place that a read asks for, and the one behind its last, both inside an object of this size.
@@ -35,15 +35,15 @@ fn version_plan<'a>(
     version: &'a Version,
     offset: u64,
     count: u64,
-    answers: &[Brief],
-    last: Option<&Brief>,
+    heard: &Heard,
+    last: Option<&Told>,
 ) -> Plan<'a>
-    ensures { Means result (range_next version.now (range_in offset count version.now.size) (answers.now ++ option_to_list (option_copied last.entry))) }
+    ensures { Means result (range_next version.now (range_in offset count version.now.size) (with_last (option_copied last.entry) heard.now).answers) }
 {
     let Some((from, to)) = places_in(offset, count, version.size) else {
         return Plan::Give { count: 0 };
     };
-    match first_answer(answers, last) {
+    match first_answer(heard, last) {
         Some(answer) => got(answer),
         None => Plan::Get { version, from, to },
     }
@@ -53,13 +53,13 @@ pub fn read_plan<'a>(
     handle: Option<&'a Handle>,
     offset: u64,
     count: u64,
-    answers: &[Brief],
-    last: Option<&Brief>,
+    heard: &Heard,
+    last: Option<&Told>,
 ) -> Plan<'a>
-    ensures { Means result (read_next (option_copied handle.entry) offset count (answers.now ++ option_to_list (option_copied last.entry))) }
+    ensures { Means result (read_next (option_copied handle.entry) offset count (with_last (option_copied last.entry) heard.now).answers) }
 {
     match handle {
-        Some(handle) => version_plan(&handle.version, offset, count, answers, last),
+        Some(handle) => version_plan(&handle.version, offset, count, heard, last),
         None => failed(Errno::Ebadf),
     }
 }

@@ -1,2 +1,3 @@
 mod Begins
 mod Order
+pub mod Answered

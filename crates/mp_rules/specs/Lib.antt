@@ -1,3 +1,4 @@
 pub mod Entry
 pub mod Keys
 pub mod Names
+pub mod Walk

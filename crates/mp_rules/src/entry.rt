@@ -1,6 +1,8 @@
 ghost use Rattle.std.specs.Prelude.{◌≡◌};
 ghost use Rattle.mp_rules.specs.Entry.{kind_of};
 
+use mp_types::ETag;
+
 /// What the mount itself keeps under a name, until the bucket has it.
 #[derive(Clone, Copy, Debug, PartialEq, Eq)]
 pub enum Local {
@@ -16,6 +18,15 @@ pub enum Kind {
     LocalDir,
     LocalFile,
     RemoteFile,
+    Nothing,
+}
+
+/// What a walk finds at a path.
+#[derive(Debug, Drop, PartialEq, Eq)]
+pub enum Entry {
+    Directory,
+    /// An object of this ETag and this many bytes, with no key below it.
+    File { etag: ETag, size: u64 },
     Nothing,
 }
 

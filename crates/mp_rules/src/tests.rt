@@ -1,5 +1,5 @@
 use super::*;
-use mp_types::FilePath;
+use mp_types::{FilePath, Key};
 use std::alloc::Global;
 use std::cmp::Ordering;
 use std::test::*;
@@ -64,5 +64,36 @@ fn names_come_as_the_keys_below_them(rt: HostRuntime) -> Result<(), Fail> {
     assert_eq!(rt; name_order("a", "a-b"), Ordering::Greater);
     assert_eq!(rt; name_order("a", "a0"), Ordering::Less);
     assert_eq!(rt; name_order("b", "a0"), Ordering::Greater);
+    Ok(())
+}
+
+fn probed(alloc: Global, key: &str, fact: Fact) -> Result<Known, Fail> {
+    Ok(Known {
+        question: Question::Probe(Key::parse(alloc, key)?),
+        fact,
+    })
+}
+
+#[test]
+fn a_question_keeps_its_first_answer(rt: HostRuntime) -> Result<(), Fail> {
+    let alloc = rt.alloc();
+    let mut facts = OwnFacts::new(alloc);
+    facts.add(probed(alloc, "a", Fact::Yes)?)?;
+    facts.add(probed(alloc, "b", Fact::No)?)?;
+    facts.add(probed(alloc, "a", Fact::No)?)?;
+    assert_eq!(rt; facts.as_slice().len(), 2);
+    assert_eq!(rt; facts.as_slice()[0].fact, Fact::Yes);
+    Ok(())
+}
+
+#[test]
+fn questions_differ_by_kind_and_key(rt: HostRuntime) -> Result<(), Fail> {
+    let alloc = rt.alloc();
+    let head = Question::Head(Key::parse(alloc, "a")?);
+    let probe = Question::Probe(Key::parse(alloc, "a")?);
+    assert!(rt; head.is(&head.copy(alloc)?));
+    assert!(rt; probe.is(&probe.copy(alloc)?));
+    assert!(rt; !head.is(&probe));
+    assert!(rt; !head.is(&Question::Head(Key::parse(alloc, "b")?)));
     Ok(())
 }

@@ -1,5 +1,5 @@
 pub mod Pieces
 pub mod Numbers
-pub mod PathNames
 pub mod Lines
+pub mod Escapes
 pub mod Asking

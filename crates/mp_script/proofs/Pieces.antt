@@ -1,39 +1,30 @@
 -- Bytes cut at their first separator.
-use Rattle.std.proofs.Common.{◌≡◌, ◌≢◌, ℕ, suc, ◌+◌, ◌<◌, ◌≤◌, Bool, true, false, cond, ◌&&◌, ◌||◌, eqb, ltb, List, [], ◌∷◌, ◌++◌, length, take, drop, get_or, Some, None, refl, sym, ap, subst, ◌∙◌, arith, add-one, drop-cons, eqb-true, eq-eqb}
+use Rattle.std.proofs.Common.{◌≡◌, ◌≢◌, ℕ, suc, ◌+◌, ◌-◌, ◌<◌, ◌≤◌, Bool, true, false, cond, ◌&&◌, ◌||◌, eqb, ltb, List, [], ◌∷◌, ◌++◌, length, take, drop, get_or, refl, sym, ap, ◌∙◌, arith, add-one, drop-cons, eqb-true, eq-eqb}
 use Rattle.std.proofs.Math.Dec.{eqb-suc-zero}
-use Rattle.std.specs.List.{list_any, slice_split, onto_first, position, position_or_len}
-use Rattle.std.proofs.lemmas.Bool.{ltb-true, ltb-false, lt-ltb}
-use Rattle.std.proofs.lemmas.List.{take-append-drop, length-take, get_or-take}
+use Rattle.std.specs.List.{list_any, slice_split, onto_first}
+use Rattle.std.proofs.lemmas.Bool.{lt-ltb, false_from_ne_true}
+use Rattle.std.proofs.lemmas.List.{take_rest, take-append-drop, length-take, get_or-take, get_or_default}
 use Rattle.std.proofs.lemmas.List.Folds.{list_any_none}
-use Rattle.std.proofs.lemmas.List.Sums.{fails_before_first, passes_at_first}
 use Rattle.mount_model.specs.ScriptText.{lines_of}
-use Rattle.mp_script.specs.Words.{has, words_of, has_empty}
+use Rattle.mp_script.specs.Words.{has, parts_of, words_of, has_empty}
 
-found_at : (b : Bool) (n at : ℕ) → Some at ≡ cond b (Some n) None → (b ≡ true) × (n ≡ at)
-found_at true n at e = (refl, cc)
-found_at false n at e = absurd (cc)
+pub not_found : (separator : ℕ) (text : List ℕ) → ((k : ℕ) → 0 ≤ k → k < length text → eqb (get_or text k 0) separator ≡ true → ⊥) → has separator text ≡ false
+not_found separator text none = list_any_none (λ byte. eqb byte separator) text
+    (λ k d lt. let same : get_or text k d ≡ get_or text k 0 = get_or_default text k d 0 lt in rw same (false_from_ne_true (eqb (get_or text k 0) separator) (none k (omega arith) lt)))
 
-none_at : (b : Bool) (n : ℕ) → None ≡ cond b (Some n) None → b ≡ false
-none_at true n e = absurd (cc)
-none_at false n e = refl
+pub none_before : (separator at : ℕ) (text : List ℕ) → at < length text → ((k : ℕ) → 0 ≤ k → k < at → eqb (get_or text k 0) separator ≡ true → ⊥) → has separator (take at text) ≡ false
+none_before separator at text lt none = not_found separator (take at text)
+    (λ k low k-lt is. let below : k < at = omega (arith, length-take at text) in none k low below (sym (ap (λ (byte : ℕ). eqb byte separator) (get_or-take at text k 0 below)) ∙ is))
 
-pub found : (separator at : ℕ) (text : List ℕ) → Some at ≡ position (λ byte. eqb byte separator) text → (text ≡ take at text ++ separator ∷ drop (at + 1) text) × (has separator (take at text) ≡ false)
-found separator at text e =
-    let p : ℕ → Bool = λ byte. eqb byte separator in
-    let n = position_or_len p text in
-    let g = found_at (ltb n (length text)) n at e in
-    let lt : n < length text = ltb-true _ _ g.0 in
-    let here : get_or text n 0 ≡ separator = eqb-true _ _ (passes_at_first p text 0 lt) in
-    let back : drop n text ≡ separator ∷ drop (n + 1) text = drop-cons text n 0 lt ∙ rw (here, add-one) refl in
-    let parts : text ≡ take n text ++ separator ∷ drop (n + 1) text = sym (take-append-drop n text) ∙ ap (λ (t : List ℕ). take n text ++ t) back in
-    let front : has separator (take n text) ≡ false = list_any_none p (take n text) (λ k d k-lt. let below : k < n = omega (arith, length-take n text) in rw (get_or-take n text k d below) (fails_before_first p text k d below)) in
-    subst (λ (k : ℕ). (text ≡ take k text ++ separator ∷ drop (k + 1) text) × (has separator (take k text) ≡ false)) g.1 (parts, front)
-
-pub not_found : (separator : ℕ) (text : List ℕ) → None ≡ position (λ byte. eqb byte separator) text → has separator text ≡ false
-not_found separator text e =
-    let p : ℕ → Bool = λ byte. eqb byte separator in
-    let le : length text ≤ position_or_len p text = ltb-false _ _ (none_at (ltb (position_or_len p text) (length text)) (position_or_len p text) e) in
-    list_any_none p text (λ k d lt. fails_before_first p text k d (omega arith))
+-- where a search stopped
+pub found : (separator at : ℕ) (text before rest : List ℕ) → before ≡ take at text → rest ≡ drop at text → at < length text → eqb (get_or text at 0) separator ≡ true
+    → ((k : ℕ) → 0 ≤ k → k < at → eqb (get_or text k 0) separator ≡ true → ⊥) → (text ≡ before ++ separator ∷ take (length rest - 1) (drop 1 rest)) × (has separator before ≡ false)
+found separator at text before rest front back lt is none =
+    let here : get_or text at 0 ≡ separator = eqb-true _ _ is in
+    let behind : drop at text ≡ separator ∷ drop (at + 1) text = drop-cons text at 0 lt ∙ rw (here, add-one) refl in
+    let last : take (length rest - 1) (drop 1 rest) ≡ drop (at + 1) text = take_rest rest 1 ∙ rw (back, behind) refl in
+    let parts : text ≡ take at text ++ separator ∷ drop (at + 1) text = sym (take-append-drop at text) ∙ ap (λ (t : List ℕ). take at text ++ t) behind in
+    (rw (front, last) parts, rw front (none_before separator at text lt none))
 
 -- ---- the words
 
@@ -104,36 +95,30 @@ has_empty-is (byte ∷ bytes) = step (eqb byte 32) (has_first 32 bytes) (has_emp
 pub empties_first : (line : List ℕ) → empties true line ≡ has_empty line
 empties_first line = (has_empty-is line).0
 
-pub empties_more : (at_start : Bool) (i : ℕ) (line : List ℕ) (total : Bool) → i < length line → (eqb (get_or line i 0) 32 && at_start) ≡ false
-    → empties at_start (drop i line) ≡ total → empties (eqb (get_or line i 0) 32) (drop (i + 1) line) ≡ total
-empties_more at_start i line total lt none so_far =
-    let here : empties at_start (drop i line) ≡ ((eqb (get_or line i 0) 32 && at_start) || empties (eqb (get_or line i 0) 32) (drop (i + 1) line)) = rw (drop-cons line i 0 lt, add-one) refl in
-    sym (ap (λ (b : Bool). b || empties (eqb (get_or line i 0) 32) (drop (i + 1) line)) none) ∙ sym here ∙ so_far
+pub empties_more : (found at_start : Bool) (i : ℕ) (line : List ℕ) → i < length line
+    → ((found || (eqb (get_or line i 0) 32 && at_start)) || empties (eqb (get_or line i 0) 32) (drop (i + 1) line)) ≡ (found || empties at_start (drop i line))
+empties_more true at_start i line lt = refl
+empties_more false at_start i line lt = rw (drop-cons line i 0 lt, add-one) refl
 
-pub empties_found : (i : ℕ) (line : List ℕ) (total : Bool) → i < length line → get_or line i 0 ≡ 32 → empties true (drop i line) ≡ total → total ≡ true
-empties_found i line total lt is so_far =
-    let here : empties true (drop i line) ≡ true = rw (drop-cons line i 0 lt, is) refl in
-    sym so_far ∙ here
+-- ---- known counts of parts
 
--- ---- known counts of words
+pub one_part : (separator : ℕ) (text : List ℕ) (n : ℕ) → has separator text ≡ false → 1 < n → length (parts_of separator text) ≢ n
+one_part separator text n none lt is = let one : length (parts_of separator text) ≡ 1 = rw (split_one separator text none) refl in absurd (omega arith)
 
-pub one_word : (text : List ℕ) (n : ℕ) → has 32 text ≡ false → 1 < n → length (words_of text) ≢ n
-one_word text n none lt is = let one : length (words_of text) ≡ 1 = rw (split_one 32 text none) refl in absurd (omega arith)
-
-pub one_more : (text before after : List ℕ) → text ≡ before ++ 32 ∷ after → has 32 before ≡ false → length (words_of text) ≢ 1
-one_more text before after e none is =
-    let more = has_first 32 after in
-    let two : length (words_of text) ≡ suc (suc (length more.others)) = rw (split_parts 32 text before after e none, more.is_parted) refl in
+pub one_more : (separator : ℕ) (text before after : List ℕ) → text ≡ before ++ separator ∷ after → has separator before ≡ false → length (parts_of separator text) ≢ 1
+one_more separator text before after e none is =
+    let more = has_first separator after in
+    let two : length (parts_of separator text) ≡ suc (suc (length more.others)) = rw (split_parts separator text before after e none, more.is_parted) refl in
     absurd (omega arith)
 
--- one word more than behind the first
-pub other_count : (text before after : List ℕ) (n : ℕ) → text ≡ before ++ 32 ∷ after → has 32 before ≡ false → length (words_of after) ≢ n → length (words_of text) ≢ n + 1
-other_count text before after n e none other is =
-    let one : length (words_of text) ≡ suc (length (words_of after)) = rw (split_parts 32 text before after e none) refl in
+-- one part more than behind the first
+pub other_count : (separator : ℕ) (text before after : List ℕ) (n : ℕ) → text ≡ before ++ separator ∷ after → has separator before ≡ false → length (parts_of separator after) ≢ n → length (parts_of separator text) ≢ n + 1
+other_count separator text before after n e none other is =
+    let one : length (parts_of separator text) ≡ suc (length (parts_of separator after)) = rw (split_parts separator text before after e none) refl in
     other (omega arith)
 
-pub words_are : (text before after : List ℕ) (words : List (List ℕ)) → text ≡ before ++ 32 ∷ after → has 32 before ≡ false → words_of after ≡ words → words_of text ≡ before ∷ words
-words_are text before after words e none are = split_parts 32 text before after e none ∙ ap (λ (t : List (List ℕ)). before ∷ t) are
+pub parts_are : (separator : ℕ) (text before after : List ℕ) (parts : List (List ℕ)) → text ≡ before ++ separator ∷ after → has separator before ≡ false → parts_of separator after ≡ parts → parts_of separator text ≡ before ∷ parts
+parts_are separator text before after parts e none are = split_parts separator text before after e none ∙ ap (λ (t : List (List ℕ)). before ∷ t) are
 
 -- ---- the lines
 

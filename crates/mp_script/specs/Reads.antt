@@ -2,7 +2,7 @@
 use Rattle.std.specs.Prelude.{◌≡◌, ℕ, ◌+◌, ◌<◌, ◌≤◌, List, ◌∷◌, ◌++◌, length, Result, Ok, Err}
 use Rattle.std.specs.Global.{Vec}
 use Rattle.mount_model.specs.declared.fault.ScriptCause.{ScriptCause}
-use Rattle.mount_model.specs.declared.fault.What.TheVariants.{Bytes, Lines, Reads}
+use Rattle.mount_model.specs.declared.fault.What.TheVariants.{Bytes, Lines, Reads, Data}
 use Rattle.mount_model.specs.declared.request.Request.{Request}
 use Rattle.mount_model.specs.declared.request.Line.{Line}
 use Rattle.mount_model.specs.ScriptText as script
@@ -49,4 +49,5 @@ ReadsScript bytes (Err (Bad line cause)) = (length bytes ≤ max_script_bytes) �
 ReadsScript bytes (Err (TooLong Bytes)) = max_script_bytes < length bytes
 ReadsScript bytes (Err (TooLong Lines)) = (length bytes ≤ max_script_bytes) × (script_of bytes ≡ Err (script.TooLong Lines))
 ReadsScript bytes (Err (TooLong Reads)) = (length bytes ≤ max_script_bytes) × (script_of bytes ≡ Err (script.TooLong Reads))
+ReadsScript bytes (Err (TooLong Data)) = (length bytes ≤ max_script_bytes) × (script_of bytes ≡ Err (script.TooLong Data))
 ReadsScript bytes (Err Memory) = Unit {0}

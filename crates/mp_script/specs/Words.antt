@@ -1,5 +1,5 @@
 -- Words and verbs.
-use Rattle.std.specs.Prelude.{ℕ, List, Bool, ◌&&◌, ◌==◌, nat_le, length, Result}
+use Rattle.std.specs.Prelude.{ℕ, List, Bool, ◌++◌, ◌&&◌, ◌==◌, nat_le, length, Result, Ok, Err}
 use Rattle.std.specs.List.{list_any, slice_split}
 use Rattle.mount_model.specs.declared.fault.ScriptCause.{ScriptCause}
 use Rattle.mount_model.specs.declared.request.Request.{Request}
@@ -10,15 +10,24 @@ use Rattle.mp_script.specs.declared.request.Verb.TheVariants.{Await, Put, Delete
 abbrev pub has : ℕ → List ℕ → Bool
 has separator text = list_any (λ byte. byte == separator) text
 
+-- the parts of a text stand between separators
+abbrev pub parts_of : ℕ → List ℕ → List (List ℕ)
+parts_of separator text = slice_split (λ byte. byte == separator) text
+
 -- the words of a line stand between single spaces
 abbrev pub words_of : List ℕ → List (List ℕ)
-words_of text = slice_split (λ byte. byte == 32) text
+words_of text = parts_of 32 text
 
 abbrev pub has_empty : List ℕ → Bool
 has_empty line = list_any (λ word. length word == 0) (words_of line)
 
 abbrev pub is_number_up_to : ℕ → List ℕ → Bool
 is_number_up_to greatest word = is_number word && nat_le (number_of word) greatest
+
+-- the bytes in front, and those that are read behind them
+abbrev pub put_in_front : List ℕ → Result (List ℕ) ScriptCause → Result (List ℕ) ScriptCause
+put_in_front front (Ok bytes) = Ok (front ++ bytes)
+put_in_front front (Err why) = Err why
 
 -- the request of a verb, with the words behind it
 abbrev pub verb_request : Verb → List (List ℕ) → Result Request ScriptCause

@@ -9,7 +9,7 @@ use std::alloc::{AllocError, AllocFailed};
 pub enum ScriptError {
     /// The first bad line, counted from 1, and the first thing that is wrong with it.
     Bad { line: u32, cause: ScriptCause },
-    /// There is too much of this. Bytes and lines are counted before any line is looked at, reads behind the last line.
+    /// There is too much of this. Bytes and lines are counted before any line is looked at, reads and then data behind the last line.
     TooLong(What),
     /// No memory.
     Memory,
@@ -34,6 +34,14 @@ impl From<AllocError> for Fault {
     ghost from_gives = { λ _ f. f ≡ fault.Memory };
 
     fn from(_error: AllocError) -> Fault {
+        Fault::Memory
+    }
+}
+
+impl From<AllocFailed<u8>> for Fault {
+    ghost from_gives = { λ _ f. f ≡ fault.Memory };
+
+    fn from(_refused: AllocFailed<u8>) -> Fault {
         Fault::Memory
     }
 }

@@ -2,9 +2,10 @@
 //! What a script is stands in mount_model; nothing here runs one, reads a file or keeps the bytes.
 #![tactic(auto)]
 
+mod content;
 mod cut;
+mod escape;
 mod fault;
-mod path;
 mod request;
 mod script;
 mod word;

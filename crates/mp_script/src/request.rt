@@ -1,10 +1,11 @@
-ghost use Rattle.std.specs.Prelude.{◌≡◌, ◌≢◌, List, ℕ, [], ◌∷◌, length, Err, MatchOption, MatchResult};
+ghost use Rattle.std.specs.Prelude.{◌≡◌, List, ℕ, [], Err, MatchResult};
 ghost use Rattle.mount_model.specs.ScriptText as script;
 ghost use Rattle.mount_model.specs.ScriptText.{change_of, asked_by_process, request_of, put_of, delete_of, stat_of, open_of, read_of, close_of, asked_of};
 ghost use Rattle.mp_script.specs.Reads.{Gives, asked};
 ghost use Rattle.mp_script.specs.Words.{words_of, verb_request};
 
-use crate::cut::{Parted, cut, has_empty_word};
+use crate::content::content;
+use crate::cut::{cut, has_empty_word, one_part, three_parts, two_parts};
 use crate::fault::Fault;
 use crate::word;
 use mount_model::{Request, ScriptCause};
@@ -66,53 +67,14 @@ fn verb_of(actor: u16, word: &[u8]) -> Result<Verb, ScriptCause>
     process_verb(word)
 }
 
-// The text as its only word.
-fn one_word(text: &[u8]) -> Option<&[u8]>
-    ensures { MatchOption result (length (words_of text.now) ≢ 1) (λ word. words_of text.now ≡ word.now ∷ []) }
-{
-    match cut(text, b' ') {
-        None => Some(text),
-        Some(_) => None,
-    }
-}
-
-// The text's only two words.
-fn two_words(text: &[u8]) -> Option<Parted<'_>>
-    ensures { MatchOption result (length (words_of text.now) ≢ 2) (λ p. words_of text.now ≡ p.before.now ∷ p.after.now ∷ []) }
-{
-    match cut(text, b' ') {
-        None => None,
-        Some(parted) => match one_word(parted.after) {
-            None => None,
-            Some(second) => Some(Parted {
-                before: parted.before,
-                after: second,
-            }),
-        },
-    }
-}
-
-// The text's first word, and the two behind it, where there are no more.
-fn three_words(text: &[u8]) -> Option<(&[u8], Parted<'_>)>
-    ensures { MatchOption result (length (words_of text.now) ≢ 3) (λ p. words_of text.now ≡ p.0.now ∷ p.1.before.now ∷ p.1.after.now ∷ []) }
-{
-    match cut(text, b' ') {
-        None => None,
-        Some(parted) => match two_words(parted.after) {
-            None => None,
-            Some(others) => Some((parted.before, others)),
-        },
-    }
-}
-
 fn put(alloc: Global, text: &[u8]) -> Result<Request, Fault>
     ensures { Gives (λ r. r) result (put_of (words_of text.now)) }
 {
-    match two_words(text) {
+    match two_parts(text, b' ') {
         None => Err(Fault::Cause(ScriptCause::Words)),
         Some(parted) => {
             let key = word::key(alloc, parted.before)?;
-            let content = word::content(alloc, parted.after)?;
+            let content = content(alloc, parted.after)?;
             Ok(Request::Put { key, content })
         }
     }
@@ -121,7 +83,7 @@ fn put(alloc: Global, text: &[u8]) -> Result<Request, Fault>
 fn delete(alloc: Global, text: &[u8]) -> Result<Request, Fault>
     ensures { Gives (λ r. r) result (delete_of (words_of text.now)) }
 {
-    match one_word(text) {
+    match one_part(text, b' ') {
         None => Err(Fault::Cause(ScriptCause::Words)),
         Some(word) => {
             let key = word::key(alloc, word)?;
@@ -133,7 +95,7 @@ fn delete(alloc: Global, text: &[u8]) -> Result<Request, Fault>
 fn stat(alloc: Global, text: &[u8]) -> Result<Request, Fault>
     ensures { Gives (λ r. r) result (stat_of (words_of text.now)) }
 {
-    match one_word(text) {
+    match one_part(text, b' ') {
         None => Err(Fault::Cause(ScriptCause::Words)),
         Some(word) => {
             let path = word::path(alloc, word)?;
@@ -145,7 +107,7 @@ fn stat(alloc: Global, text: &[u8]) -> Result<Request, Fault>
 fn open_read(alloc: Global, text: &[u8]) -> Result<Request, Fault>
     ensures { Gives (λ r. r) result (open_of (words_of text.now)) }
 {
-    match two_words(text) {
+    match two_parts(text, b' ') {
         None => Err(Fault::Cause(ScriptCause::Words)),
         Some(parted) => {
             let handle = word::handle(parted.before)?;
@@ -158,7 +120,7 @@ fn open_read(alloc: Global, text: &[u8]) -> Result<Request, Fault>
 fn read(text: &[u8]) -> Result<Request, ScriptCause>
     ensures { result ≡ read_of (words_of text.now) }
 {
-    match three_words(text) {
+    match three_parts(text, b' ') {
         None => Err(ScriptCause::Words),
         Some((name, range)) => {
             let handle = word::handle(name)?;
@@ -176,7 +138,7 @@ fn read(text: &[u8]) -> Result<Request, ScriptCause>
 fn close(text: &[u8]) -> Result<Request, ScriptCause>
     ensures { result ≡ close_of (words_of text.now) }
 {
-    match one_word(text) {
+    match one_part(text, b' ') {
         None => Err(ScriptCause::Words),
         Some(word) => {
             let handle = word::handle(word)?;

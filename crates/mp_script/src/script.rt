@@ -1,6 +1,6 @@
 ghost use Rattle.std.specs.Prelude.{◌≡◌, ◌<◌, ◌≤◌, ◌∷◌, length, nat_lt, IfOk};
 ghost use Rattle.mount_model.specs.Run.{AreRising};
-ghost use Rattle.mount_model.specs.ScriptText.{max_script_bytes, max_lines, max_read_bytes, lines_of, script_from, count_in, bytes_asked};
+ghost use Rattle.mount_model.specs.ScriptText.{max_script_bytes, max_lines, max_read_bytes, max_given_bytes, lines_of, script_from, count_in, bytes_asked, given_in, bytes_given};
 ghost use Rattle.mp_script.specs.Reads.{ReadsScript, ReadsLines, AddsLine};
 
 use crate::cut::{Parted, cut};
@@ -56,6 +56,21 @@ fn count_in(request: &Request) -> u64
     }
 }
 
+// How many bytes a request gives to be stored.
+fn given_in(request: &Request) -> u64
+    ensures { result ≡ given_in request.now }
+{
+    match request {
+        Request::Put { content, .. } => content.len(),
+        Request::Await
+        | Request::Stat { .. }
+        | Request::OpenRead { .. }
+        | Request::Read { .. }
+        | Request::Close { .. }
+        | Request::Delete { .. } => 0,
+    }
+}
+
 // Whether the lines ask to read more than a script may ask for.
 fn reads_too_much(lines: &[Line]) -> bool
     ensures { result ≡ nat_lt max_read_bytes (bytes_asked lines.now) }
@@ -67,6 +82,21 @@ fn reads_too_much(lines: &[Line]) -> bool
             return true;
         }
         left -= count;
+    }
+    false
+}
+
+// Whether the lines give more to be stored than a script may give.
+fn gives_too_much(lines: &[Line]) -> bool
+    ensures { result ≡ nat_lt max_given_bytes (bytes_given lines.now) }
+{
+    let mut room = 268_435_456u64;
+    for line in lines {
+        let given = given_in(&line.request);
+        if given > room {
+            return true;
+        }
+        room -= given;
     }
     false
 }
@@ -120,8 +150,8 @@ fn read_lines(alloc: Global, bytes: &[u8]) -> Result<Vec<Line>, ScriptError>
 }
 
 /// The lines that the bytes spell, numbered from 1 by their place in the text.
-/// A script has at most 67,108,864 bytes and 65,536 lines. Its reads ask for at most 268,435,456 bytes together.
-/// Of several faults it is the first of these that is told: too many bytes, too many lines, the first bad line, too much to read.
+/// A script has at most 67,108,864 bytes and 65,536 lines. Its reads ask for at most 268,435,456 bytes together, and its puts give at most as many.
+/// Of several faults it is the first of these that is told: too many bytes, too many lines, the first bad line, too much to read, too much data.
 pub fn read_script(alloc: Global, bytes: &[u8]) -> Result<Script, ScriptError>
     ensures reads { ReadsScript bytes.now result }
     ensures rising { IfOk result (AreRising 0) }
@@ -135,6 +165,9 @@ pub fn read_script(alloc: Global, bytes: &[u8]) -> Result<Script, ScriptError>
     let lines = read_lines(alloc, bytes)?;
     if reads_too_much(lines.as_slice()) {
         return Err(ScriptError::TooLong(What::Reads));
+    }
+    if gives_too_much(lines.as_slice()) {
+        return Err(ScriptError::TooLong(What::Data));
     }
     Ok(Items::from_vec(lines))
 }

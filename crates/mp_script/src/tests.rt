@@ -91,11 +91,107 @@ fn passed_lines_keep_their_numbers(rt: HostRuntime) -> Result<(), Fail> {
 
 #[test]
 fn faulty_paths_are_read(rt: HostRuntime) -> Result<(), Fail> {
-    let script = read_script(rt.alloc(), b"1 stat f\n1 stat /..\n1 stat //a\n1 stat /a/")
+    let lines = b"1 stat f\n1 stat /..\n1 stat //a\n1 stat /a/\n1 stat /\n1 stat /a/b\n1 stat %00";
+    let script = read_script(rt.alloc(), lines).ok().ok_or("it is a script")?;
+    assert_eq!(rt; script.len(), 7);
+    Ok(())
+}
+
+#[test]
+fn escaped_paths_are_read(rt: HostRuntime) -> Result<(), Fail> {
+    let script = read_script(rt.alloc(), b"1 stat %\n1 stat %2f%4A%c3\xa9b%25")
         .ok()
         .ok_or("it is a script")?;
-    assert_eq!(rt; script.len(), 4);
+    let [first, second] = script.as_slice() else {
+        return Err("there are two lines".into());
+    };
+    let (Request::Stat { path: empty }, Request::Stat { path }) = (&first.request, &second.request)
+    else {
+        return Err("both lines are stats".into());
+    };
+    assert_eq!(rt; empty.as_str(), "");
+    assert_eq!(rt; path.as_str(), "/J\u{e9}b%");
     Ok(())
+}
+
+// The bytes that a put gives with this word.
+fn bytes_given(alloc: Global, word: &[u8]) -> Result<Vec<u8>, Fail> {
+    let mut line = Vec::from_slice(alloc, b"0 put a ")?;
+    line.extend_from_slice(word)?;
+    let script = read_script(alloc, line.as_slice())
+        .ok()
+        .ok_or("it is a script")?;
+    let [first] = script.as_slice() else {
+        return Err("there is one line".into());
+    };
+    let Request::Put { content, .. } = &first.request else {
+        return Err("the line is a put".into());
+    };
+    Ok(content.to_vec(alloc)?)
+}
+
+#[test]
+fn data_has_three_forms(rt: HostRuntime) -> Result<(), Fail> {
+    let cases = [
+        (b"t".as_slice(), b"".as_slice()),
+        (b"t%".as_slice(), b"".as_slice()),
+        (b"ta%00\xff%fFz".as_slice(), b"a\x00\xff\xffz".as_slice()),
+        (b"x".as_slice(), b"".as_slice()),
+        (b"xAb0c".as_slice(), b"\xab\x0c".as_slice()),
+        (b"g1:0".as_slice(), b"".as_slice()),
+        (b"g249:3".as_slice(), b"\xf9\xfa\x00".as_slice()),
+        (b"g4294967295:2".as_slice(), b"z{".as_slice()),
+    ];
+    for (word, bytes) in cases {
+        let given = bytes_given(rt.alloc(), word)?;
+        assert_eq!(rt; given.as_slice(), bytes);
+    }
+    Ok(())
+}
+
+#[test]
+fn the_first_fault_of_a_text_is_told(rt: HostRuntime) {
+    let cases = [
+        (b"0 put % t".as_slice(), ScriptCause::Key),
+        (b"0 put % t%4".as_slice(), ScriptCause::Key),
+        (b"0 put %4 q".as_slice(), ScriptCause::Escape),
+        (b"0 delete \x80%".as_slice(), ScriptCause::Escape),
+        (b"0 delete \x80".as_slice(), ScriptCause::Utf8),
+        (b"0 delete %ff".as_slice(), ScriptCause::Utf8),
+        (b"1 stat /\xc3".as_slice(), ScriptCause::Utf8),
+        (b"1 stat %zz".as_slice(), ScriptCause::Escape),
+        (b"1 stat /\x7f".as_slice(), ScriptCause::Escape),
+        (b"1 stat /\t".as_slice(), ScriptCause::Escape),
+        (b"1 stat %2\x7f".as_slice(), ScriptCause::Escape),
+        (b"1 openr 1 %ff".as_slice(), ScriptCause::Utf8),
+    ];
+    for (line, cause) in cases {
+        assert_eq!(rt; fault(rt.alloc(), line), bad(1, cause));
+    }
+}
+
+#[test]
+fn the_first_fault_of_data_is_told(rt: HostRuntime) {
+    let cases = [
+        (b"0 put a t%4".as_slice(), ScriptCause::Escape),
+        (b"0 put a %".as_slice(), ScriptCause::Data),
+        (b"0 put a q".as_slice(), ScriptCause::Data),
+        (b"0 put a x0".as_slice(), ScriptCause::Data),
+        (b"0 put a xzz".as_slice(), ScriptCause::Data),
+        (b"0 put a g".as_slice(), ScriptCause::Data),
+        (b"0 put a g1".as_slice(), ScriptCause::Data),
+        (b"0 put a g:1".as_slice(), ScriptCause::Data),
+        (b"0 put a g1:".as_slice(), ScriptCause::Data),
+        (b"0 put a g1:2:3".as_slice(), ScriptCause::Data),
+        (b"0 put a g4294967296:1".as_slice(), ScriptCause::Data),
+        (
+            b"0 put a g1:9223372036854775808".as_slice(),
+            ScriptCause::Data,
+        ),
+    ];
+    for (line, cause) in cases {
+        assert_eq!(rt; fault(rt.alloc(), line), bad(1, cause));
+    }
 }
 
 #[test]
@@ -121,14 +217,12 @@ fn the_first_fault_of_a_line_is_told(rt: HostRuntime) {
         (b"1000  await".as_slice(), ScriptCause::Words),
         (b"1 stat".as_slice(), ScriptCause::Words),
         (b"0 put a t t".as_slice(), ScriptCause::Words),
-        (b"1 stat /a%20".as_slice(), ScriptCause::Escape),
-        (b"0 put a x00".as_slice(), ScriptCause::Data),
-        (b"1 stat /".as_slice(), ScriptCause::Path),
-        (b"1 stat /a/b".as_slice(), ScriptCause::Path),
+        (b"1 stat /a%2".as_slice(), ScriptCause::Escape),
+        (b"0 put a hello".as_slice(), ScriptCause::Data),
         (b"1 delete a".as_slice(), ScriptCause::Verb),
         (b"0 delete".as_slice(), ScriptCause::Words),
         (b"0 delete a b".as_slice(), ScriptCause::Words),
-        (b"0 delete a%20".as_slice(), ScriptCause::Escape),
+        (b"0 delete a%2".as_slice(), ScriptCause::Escape),
     ];
     for (line, cause) in cases {
         assert_eq!(rt; fault(rt.alloc(), line), bad(1, cause));
@@ -151,7 +245,6 @@ fn the_first_fault_of_a_read_is_told(rt: HostRuntime) {
         (b"1 read x 0 x".as_slice(), ScriptCause::Handle),
         (b"1 close -1".as_slice(), ScriptCause::Handle),
         (b"1 openr 1 /%".as_slice(), ScriptCause::Escape),
-        (b"1 openr 1 /".as_slice(), ScriptCause::Path),
         (
             b"1 read 1 9223372036854775808 1".as_slice(),
             ScriptCause::Number,
@@ -215,11 +308,34 @@ fn reads_have_a_limit_together(rt: HostRuntime) {
     assert_eq!(rt; fault(rt.alloc(), bad_too), bad(2, ScriptCause::Verb));
 }
 
-// A put to a key of this many bytes.
-fn put_to_long_key(alloc: Global, len: usize) -> Result<Option<ScriptError>, Fail> {
+#[test]
+fn data_has_a_limit_together(rt: HostRuntime) {
+    let stored = Some(ScriptError::TooLong(What::Data));
+    let most = b"0 put a g1:268435455\n0 put b tx".as_slice();
+    assert_eq!(rt; fault(rt.alloc(), most), None);
+    let more = b"0 put a g1:268435455\n0 put b x0000".as_slice();
+    assert_eq!(rt; fault(rt.alloc(), more), stored);
+    let greatest =
+        b"0 put a g4294967295:9223372036854775807\n0 put a g0:9223372036854775807\n0 put a g0:9223372036854775807".as_slice();
+    assert_eq!(rt; fault(rt.alloc(), greatest), stored);
+    let reads_too = b"0 put a g1:268435457\n1 read 1 0 268435457".as_slice();
+    assert_eq!(rt;
+        fault(rt.alloc(), reads_too),
+        Some(ScriptError::TooLong(What::Reads))
+    );
+    let bad_too = b"0 put a g1:268435457\n1 frob".as_slice();
+    assert_eq!(rt; fault(rt.alloc(), bad_too), bad(2, ScriptCause::Verb));
+}
+
+// What a put to a key of so many spelled bytes gives.
+fn put_to_long_key(
+    alloc: Global,
+    spelled: &[u8],
+    count: usize,
+) -> Result<Option<ScriptError>, Fail> {
     let mut line = Vec::from_slice(alloc, b"0 put ")?;
-    for _ in 0..len {
-        line.push(b'k')?;
+    for _ in 0..count {
+        line.extend_from_slice(spelled)?;
     }
     line.extend_from_slice(b" t")?;
     Ok(fault(alloc, line.as_slice()))
@@ -227,10 +343,12 @@ fn put_to_long_key(alloc: Global, len: usize) -> Result<Option<ScriptError>, Fai
 
 #[test]
 fn a_key_has_at_most_1024_bytes(rt: HostRuntime) -> Result<(), Fail> {
-    assert_eq!(rt; put_to_long_key(rt.alloc(), 1024)?, None);
-    assert_eq!(rt;
-        put_to_long_key(rt.alloc(), 1025)?,
-        bad(1, ScriptCause::Key)
-    );
+    let too_long = bad(1, ScriptCause::Key);
+    assert_eq!(rt; put_to_long_key(rt.alloc(), b"k", 1024)?, None);
+    assert_eq!(rt; put_to_long_key(rt.alloc(), b"k", 1025)?, too_long);
+    assert_eq!(rt; put_to_long_key(rt.alloc(), b"%6b", 1024)?, None);
+    assert_eq!(rt; put_to_long_key(rt.alloc(), b"%6B", 1025)?, too_long);
+    let not_utf8 = bad(1, ScriptCause::Utf8);
+    assert_eq!(rt; put_to_long_key(rt.alloc(), b"%ff", 1025)?, not_utf8);
     Ok(())
 }

@@ -1,14 +1,13 @@
-ghost use Rattle.std.specs.Prelude.{◌≡◌, ◌-◌, ◌^◌, ◌<◌, ◌≤◌, min, true, false, IfSome, MatchOption, MatchResult, Ok, Err};
+ghost use Rattle.std.specs.Prelude.{◌≡◌, ◌-◌, ◌^◌, ◌<◌, ◌≤◌, min, true, false, IfSome, MatchOption};
 ghost use Rattle.std.specs.List.{list_all};
-ghost use Rattle.mount_model.specs.RecordText.{is_plain};
-ghost use Rattle.mount_model.specs.ScriptText.{is_digit, is_number, number_of, actor_of, handle_word, number_word, plain_of, key_of, content_of, path_word};
+ghost use Rattle.mount_model.specs.ScriptText.{is_digit, is_number, number_of, actor_of, handle_word, number_word, key_of, text_of};
 ghost use Rattle.mp_script.specs.Reads.{Gives};
 ghost use Rattle.mp_script.specs.Words.{is_number_up_to};
 
+use crate::escape;
 use crate::fault::Fault;
-use crate::path::is_served;
 use mount_model::ScriptCause;
-use mp_types::{Data, Items, Key, KeyFault, Text};
+use mp_types::{Key, KeyFault, Text};
 use std::alloc::Global;
 
 fn is_decimal_digit(byte: u8) -> bool
@@ -42,16 +41,19 @@ fn capped_number(digits: &[u8]) -> u64
 }
 
 // The number that a word spells, where it spells one up to this.
-fn number_up_to(word: &[u8], greatest: u64) -> Option<u64>
+pub fn number_up_to(word: &[u8], greatest: u64) -> Option<u64>
     requires { greatest < 2 ^ 64 - 1 }
     ensures value { MatchOption result (is_number_up_to greatest word.now ≡ false) (λ number. (is_number_up_to greatest word.now ≡ true) × (number ≡ number_of word.now)) }
     ensures small { IfSome result (λ number. number ≤ greatest) }
 {
-    let number = capped_number(word);
-    if is_decimal(word) && number <= greatest {
-        return Some(number);
+    if !is_decimal(word) {
+        return None;
     }
-    None
+    let number = capped_number(word);
+    if number > greatest {
+        return None;
+    }
+    Some(number)
 }
 
 pub fn actor(word: &[u8]) -> Result<u16, ScriptCause>
@@ -82,57 +84,19 @@ pub fn number(word: &[u8]) -> Result<u64, ScriptCause>
     }
 }
 
-fn stands_for_itself(byte: u8) -> bool
-    ensures { result ≡ is_plain byte }
-{
-    byte >= 33 && byte <= 126 && byte != b'%'
-}
-
-fn all_plain(word: &[u8]) -> bool
-    ensures { result ≡ list_all is_plain word.now }
-{
-    word.iter().all(|byte| stands_for_itself(*byte))
-}
-
-fn plain(word: &[u8]) -> Result<&str, ScriptCause>
-    ensures { MatchResult result (λ text. plain_of word.now ≡ Ok text.now) (λ cause. plain_of word.now ≡ Err cause) }
-{
-    if !all_plain(word) {
-        return Err(ScriptCause::Escape);
-    }
-    match str::from_utf8(word) {
-        Ok(text) => Ok(text),
-        Err(_) => unreachable!(),
-    }
-}
-
 pub fn key(alloc: Global, word: &[u8]) -> Result<Key, Fault>
     ensures { Gives (λ key. key) result (key_of word.now) }
 {
-    let text = plain(word)?;
-    match Key::parse(alloc, text) {
+    let text = escape::text(alloc, word)?;
+    match Key::parse(alloc, text.as_str()) {
         Ok(key) => Ok(key),
         Err(KeyFault::Memory) => Err(Fault::Memory),
         Err(KeyFault::Empty | KeyFault::TooLong) => Err(Fault::Cause(ScriptCause::Key)),
     }
 }
 
-pub fn content(alloc: Global, word: &[u8]) -> Result<Data, Fault>
-    ensures { Gives (λ content. content) result (content_of word.now) }
-{
-    let text = plain(word)?;
-    match text.as_bytes() {
-        [b't', bytes @ ..] => Ok(Data::Literal(Items::from_vec(Vec::from_slice(alloc, bytes)?))),
-        _ => Err(Fault::Cause(ScriptCause::Data)),
-    }
-}
-
 pub fn path(alloc: Global, word: &[u8]) -> Result<Text, Fault>
-    ensures { Gives (λ path. path) result (path_word word.now) }
+    ensures { Gives (λ path. path) result (text_of word.now) }
 {
-    let text = plain(word)?;
-    if !is_served(text.as_bytes()) {
-        return Err(Fault::Cause(ScriptCause::Path));
-    }
-    Ok(Text::copy(alloc, text)?)
+    Ok(Text::from_string(escape::text(alloc, word)?))
 }

@@ -1,1 +1,2 @@
-mod Paths
+pub mod Paths
+pub mod Patterns

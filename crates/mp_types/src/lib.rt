@@ -16,7 +16,7 @@ pub use etag::{ETag, ETagFault};
 pub use items::Items;
 pub use key::{Key, KeyFault};
 pub use octets::Data;
-pub use path::{FilePath, PathFault, is_name};
+pub use path::{FilePath, PathFault, below_root, is_name};
 pub use text::Text;
 
 /// Any bytes, seen by contracts as their list.

@@ -60,8 +60,9 @@ fn first_bad_name(below: &str) -> Option<usize>
     below.split('/').position(|name| !is_name(name))
 }
 
-// What stands behind the first `/`.
-fn below_root(text: &str) -> Result<&str, PathFault>
+/// What stands behind the first `/` of a path: its names with a `/` between each two, and nothing for the root.
+/// Takes no memory.
+pub fn below_root(text: &str) -> Result<&str, PathFault>
     ensures { MatchResult result (λ below. IsPathText text.now below.now) (λ why. path_of text.now ≡ Err why) }
 {
     let Some(below) = text.strip_prefix('/') else {

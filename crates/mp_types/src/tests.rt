@@ -75,3 +75,32 @@ fn a_path_has_at_most_1024_bytes_below(rt: HostRuntime) -> Result<(), Fail> {
     );
     Ok(())
 }
+
+#[test]
+fn a_pattern_counts_modulo_251(rt: HostRuntime) -> Result<(), Fail> {
+    let data = Data::Pattern {
+        seed: 249,
+        length: 260,
+    };
+    assert_eq!(rt; data.len(), 260);
+    let bytes = data.to_vec(rt.alloc())?;
+    assert_eq!(rt; bytes.len(), 260);
+    assert_eq!(rt; &bytes.as_slice()[..4], [249u8, 250, 0, 1].as_slice());
+    assert_eq!(rt; bytes.as_slice()[259], 6);
+    let mut part = [9u8; 3];
+    data.fill(252, &mut part);
+    assert_eq!(rt; part.as_slice(), [250u8, 0, 1].as_slice());
+    Ok(())
+}
+
+// 17,111,423 times 251 is 4,294,967,173, which is 122 less than 2^32 - 1.
+#[test]
+fn the_greatest_seed_wraps_to_its_place(rt: HostRuntime) -> Result<(), Fail> {
+    let data = Data::Pattern {
+        seed: 4_294_967_295,
+        length: 2,
+    };
+    let bytes = data.to_vec(rt.alloc())?;
+    assert_eq!(rt; bytes.as_slice(), [122u8, 123].as_slice());
+    Ok(())
+}

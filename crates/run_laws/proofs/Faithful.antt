@@ -13,6 +13,7 @@ use Rattle.mount_model.specs.declared.event.Event.{Event}
 use Rattle.mount_model.specs.declared.event.Event.TheVariants.{Begin, Take, Done}
 use Rattle.mount_model.specs.declared.event.Ask.{Ask}
 use Rattle.mount_model.specs.declared.event.Answered.{Answered}
+use Rattle.mount_model.specs.declared.standing.Heard.{Heard}
 use Rattle.mount_model.specs.declared.standing.Phase.{Phase}
 use Rattle.mount_model.specs.declared.standing.Phase.TheVariants.{Waiting, Begun, Replied}
 use Rattle.mount_model.specs.declared.standing.Standing.{Standing}
@@ -34,35 +35,35 @@ use Rattle.run_laws.proofs.Served.{await-none, one_job}
 
 -- two lines that have begun are of two processes
 
-orderly-first : (busy : List ℕ) (line : Line) (phase : Phase) (answers : List Brief) (lines : List Standing) → phase ≡ Begun answers → AreOrderly busy (record { line = line; phase = phase } ∷ lines) → is_among line.actor busy ≡ false
-orderly-first busy line Waiting answers lines is o = absurd (cc)
-orderly-first busy line (Begun others) answers lines is o = o.0
-orderly-first busy line Replied answers lines is o = absurd (cc)
+orderly-first : (busy : List ℕ) (line : Line) (phase : Phase) (heard : Heard) (lines : List Standing) → phase ≡ Begun heard → AreOrderly busy (record { line = line; phase = phase } ∷ lines) → is_among line.actor busy ≡ false
+orderly-first busy line Waiting heard lines is o = absurd (cc)
+orderly-first busy line (Begun others) heard lines is o = o.0
+orderly-first busy line Replied heard lines is o = absurd (cc)
 
 orderly-rest : (busy : List ℕ) (line : Line) (phase : Phase) (lines : List Standing) → AreOrderly busy (record { line = line; phase = phase } ∷ lines) → AreOrderly (busy_below phase line.actor busy) lines
 orderly-rest busy line Waiting lines o = o
-orderly-rest busy line (Begun answers) lines o = o.1
+orderly-rest busy line (Begun heard) lines o = o.1
 orderly-rest busy line Replied lines o = o.1
 
 free-above : (busy : List ℕ) (phase : Phase) (actor other : ℕ) → is_among other (busy_below phase actor busy) ≡ false → is_among other busy ≡ false
 free-above busy Waiting actor other free = (Frees-first actor busy).free other free
-free-above busy (Begun answers) actor other free = (Frees-first actor busy).free other free
+free-above busy (Begun heard) actor other free = (Frees-first actor busy).free other free
 free-above busy Replied actor other free = free
 
-orderly-free : (busy : List ℕ) (n : ℕ) (lines : List Standing) (s : Standing) (answers : List Brief) → AreOrderly busy lines → line_at n lines ≡ Some s → s.phase ≡ Begun answers → is_among s.line.actor busy ≡ false
-orderly-free busy n [] s answers o stands is = absurd (cc)
-orderly-free busy n (first ∷ lines) s answers o stands is = go (first.line.number == n) stands (λ later. orderly-free (busy_below first.phase first.line.actor busy) n lines s answers (orderly-rest busy first.line first.phase lines o) later is)
+orderly-free : (busy : List ℕ) (n : ℕ) (lines : List Standing) (s : Standing) (heard : Heard) → AreOrderly busy lines → line_at n lines ≡ Some s → s.phase ≡ Begun heard → is_among s.line.actor busy ≡ false
+orderly-free busy n [] s heard o stands is = absurd (cc)
+orderly-free busy n (first ∷ lines) s heard o stands is = go (first.line.number == n) stands (λ later. orderly-free (busy_below first.phase first.line.actor busy) n lines s heard (orderly-rest busy first.line first.phase lines o) later is)
   where
     go : (b : Bool) → cond b (Some first) (line_at n lines) ≡ Some s → (line_at n lines ≡ Some s → is_among s.line.actor (busy_below first.phase first.line.actor busy) ≡ false) → is_among s.line.actor busy ≡ false
     go true stands ih =
         let same : first ≡ s = cc in
-        let begun : first.phase ≡ Begun answers = ap (λ (t : Standing). t.phase) same ∙ is in
-        let free : is_among first.line.actor busy ≡ false = orderly-first busy first.line first.phase answers lines begun o in
+        let begun : first.phase ≡ Begun heard = ap (λ (t : Standing). t.phase) same ∙ is in
+        let free : is_among first.line.actor busy ≡ false = orderly-first busy first.line first.phase heard lines begun o in
         subst (λ (t : Standing). is_among t.line.actor busy ≡ false) same free
     go false stands ih = free-above busy first.phase first.line.actor s.line.actor (ih stands)
 
 -- of a line that has begun and one further down
-apart-below : (busy : List ℕ) (m : ℕ) (first : Standing) (lines : List Standing) (t : Standing) (a b : List Brief) → AreOrderly busy (first ∷ lines) → first.phase ≡ Begun a → line_at m lines ≡ Some t → t.phase ≡ Begun b → first.line.actor ≢ t.line.actor
+apart-below : (busy : List ℕ) (m : ℕ) (first : Standing) (lines : List Standing) (t : Standing) (a b : Heard) → AreOrderly busy (first ∷ lines) → first.phase ≡ Begun a → line_at m lines ≡ Some t → t.phase ≡ Begun b → first.line.actor ≢ t.line.actor
 apart-below busy m first lines t a b o begun stands is e =
     let rest = orderly-rest busy first.line first.phase lines o in
     let busy_now : busy_below first.phase first.line.actor busy ≡ first.line.actor ∷ busy = ap (λ (p : Phase). busy_below p first.line.actor busy) begun in
@@ -71,7 +72,7 @@ apart-below busy m first lines t a b o begun stands is e =
     let clash : (first.line.actor == t.line.actor || is_among t.line.actor busy) ≡ true = rw same refl in
     absurd (cc)
 
-pub orderly-apart : (busy : List ℕ) (n m : ℕ) (lines : List Standing) (s t : Standing) (a b : List Brief) → n ≢ m → AreOrderly busy lines → line_at n lines ≡ Some s → s.phase ≡ Begun a → line_at m lines ≡ Some t → t.phase ≡ Begun b → s.line.actor ≢ t.line.actor
+pub orderly-apart : (busy : List ℕ) (n m : ℕ) (lines : List Standing) (s t : Standing) (a b : Heard) → n ≢ m → AreOrderly busy lines → line_at n lines ≡ Some s → s.phase ≡ Begun a → line_at m lines ≡ Some t → t.phase ≡ Begun b → s.line.actor ≢ t.line.actor
 orderly-apart busy n m [] s t a b apart o at_n is_n at_m is_m = absurd (cc)
 orderly-apart busy n m (first ∷ lines) s t a b apart o at_n is_n at_m is_m = go (first.line.number == n) (first.line.number == m) refl refl at_n at_m (λ later_n later_m. orderly-apart (busy_below first.phase first.line.actor busy) n m lines s t a b apart (orderly-rest busy first.line first.phase lines o) later_n is_n later_m is_m)
   where
@@ -169,15 +170,15 @@ old-makes : (state : ClientState) (step : Step) → IsAlive state → IsFaithful
 old-makes state step alive faithful legal opened k job stands live apart =
     let due = owner-due state k job.line job alive stands refl live in
     let lines : List Standing = lines_at state.lines state.jobs step.event in
-    let own_line : Standing = record { line = opened.line; phase = Begun opened.answers } in
-    let job_line : Standing = record { line = due.line; phase = Begun due.answers } in
+    let own_line : Standing = record { line = opened.line; phase = Begun opened.heard } in
+    let job_line : Standing = record { line = due.line; phase = Begun due.heard } in
     let here : line_at job.line lines ≡ Some job_line = ap (line_at job.line) opened.lines_are ∙ line_at-other opened.n job.line opened.goes state.lines (λ e. apart (sym e)) ∙ due.stands in
-    let actors : opened.line.actor ≢ due.line.actor = orderly-apart [] opened.n job.line lines own_line job_line opened.answers due.answers apart opened.now.orderly opened.now.stands refl here refl in
+    let actors : opened.line.actor ≢ due.line.actor = orderly-apart [] opened.n job.line lines own_line job_line opened.heard due.heard apart opened.now.orderly opened.now.stands refl here refl in
     let takes = subst (λ (t : Turn). TakesTurn (length state.jobs + 1) t step.asks legal.own) opened.turn legal.turn in
-    let to_own = own-line (length state.jobs + 1) opened.n opened.owner (next_of (handle_of opened.line state.handles) opened.line.request opened.answers) step.asks legal.own takes in
+    let to_own = own-line (length state.jobs + 1) opened.n opened.owner (next_of (handle_of opened.line state.handles) opened.line.request opened.heard) step.asks legal.own takes in
     let spares = own-spares lines opened.n job.line due.line.actor own_line apart opened.now.stands actors legal.own to_own in
-    left-next state step job.line due.line due.answers alive legal here (await-none due.line.request due.wants) spares
-    ∙ sym (next_at-begun state.handles job.line due.line due.answers state.lines due.stands)
+    left-next state step job.line due.line due.heard alive legal here (await-none due.line.request due.wants) spares
+    ∙ sym (next_at-begun state.handles job.line due.line due.heard state.lines due.stands)
     ∙ faithful.makes k job stands live
 
 -- and its own job makes the call that it asks
@@ -189,7 +190,7 @@ single-found k first job is = go (first.number == k) is
     go false is = absurd (cc)
 
 new-makes : (state : ClientState) (step : Step) → IsAlive state → IsLegalStep state step → (opened : IsOpened state step.event) → (k : ℕ) (job : Job) → job_at k (map (job_of state.lines opened.n) step.asks) ≡ Some job → Makes (after state step) job
-new-makes state step alive legal opened k job stands = go (next_of (handle_of opened.line state.handles) opened.line.request opened.answers) refl (subst (λ (t : Turn). TakesTurn (length state.jobs + 1) t step.asks legal.own) opened.turn legal.turn)
+new-makes state step alive legal opened k job stands = go (next_of (handle_of opened.line state.handles) opened.line.request opened.heard) refl (subst (λ (t : Turn). TakesTurn (length state.jobs + 1) t step.asks legal.own) opened.turn legal.turn)
   where
     n : ℕ
     n = opened.n
@@ -197,20 +198,20 @@ new-makes state step alive legal opened k job stands = go (next_of (handle_of op
     none : step.asks ≡ [] → Makes (after state step) job
     none no_asks = let nowhere : job_at k [] ≡ Some job = ap (λ (x : List Ask). job_at k (map (job_of state.lines n) x)) (sym no_asks) ∙ stands in absurd (cc)
 
-    asks : (called : Call) → next_of (handle_of opened.line state.handles) opened.line.request opened.answers ≡ Asks called → step.asks ≡ record { job = length state.jobs + 1; owner = opened.owner; call = asked_of called } ∷ [] → legal.own ≡ [] → Makes (after state step) job
+    asks : (called : Call) → next_of (handle_of opened.line state.handles) opened.line.request opened.heard ≡ Asks called → step.asks ≡ record { job = length state.jobs + 1; owner = opened.owner; call = asked_of called } ∷ [] → legal.own ≡ [] → Makes (after state step) job
     asks called is asked no_own =
         let lines : List Standing = lines_at state.lines state.jobs step.event in
         let new : Job = job_of state.lines n (record { job = length state.jobs + 1; owner = opened.owner; call = asked_of called }) in
         let same : new ≡ job = single-found k new job (ap (λ (x : List Ask). job_at k (map (job_of state.lines n) x)) (sym asked) ∙ stands) in
         let spares = subst (AllByRecursion (Spares lines n opened.line.actor)) (sym no_own) tt in
-        let one = asks-one (handle_of opened.line state.handles) opened.line.request opened.answers called is in
-        let puts = asks-puts (handle_of opened.line state.handles) opened.line.request opened.answers called is in
+        let one = asks-one (handle_of opened.line state.handles) opened.line.request opened.heard called is in
+        let puts = asks-puts (handle_of opened.line state.handles) opened.line.request opened.heard called is in
         let content : content_of (line_at n state.lines) ≡ content_in opened.line.request = ap content_of opened.found in
         let whole = whole-is state.lines n called (subst (λ (x : List ℕ). Puts x called) (sym content) puts) in
         subst (Makes (after state step)) same
-        (left-next state step n opened.line opened.answers alive legal opened.now.stands (await-none opened.line.request one) spares ∙ is ∙ ap Asks (sym whole))
+        (left-next state step n opened.line opened.heard alive legal opened.now.stands (await-none opened.line.request one) spares ∙ is ∙ ap Asks (sym whole))
 
-    go : (next : Next) → next_of (handle_of opened.line state.handles) opened.line.request opened.answers ≡ next → TakesTurn (length state.jobs + 1) (TurnOf n opened.owner next) step.asks legal.own → Makes (after state step) job
+    go : (next : Next) → next_of (handle_of opened.line state.handles) opened.line.request opened.heard ≡ next → TakesTurn (length state.jobs + 1) (TurnOf n opened.owner next) step.asks legal.own → Makes (after state step) job
     go (Asks called) is (inl t) = asks called is t.0 t.1
     go (Asks called) is (inr t) = none t.0
     go (Replies said) is t = none t.0
@@ -241,9 +242,9 @@ begin-others state n time m alive may of_line =
           let due = owner-due state k job.line job alive stands refl live in
           let same : n ≡ m = cc in
           let here : line_at n state.lines ≡ line_at job.line state.lines = ap (λ (x : ℕ). line_at x state.lines) (same ∙ e) in
-          let clash : Some (record { line = found.line; phase = Waiting }) ≡ Some (record { line = due.line; phase = Begun due.answers }) = sym found.stands ∙ here ∙ due.stands in
-          let both : record { line = found.line; phase = Waiting } ≡ record { line = due.line; phase = Begun due.answers } = cc in
-          let phases : Waiting ≡ Begun due.answers = ap (λ (s : Standing). s.phase) both in
+          let clash : Some (record { line = found.line; phase = Waiting }) ≡ Some (record { line = due.line; phase = Begun due.heard }) = sym found.stands ∙ here ∙ due.stands in
+          let both : record { line = found.line; phase = Waiting } ≡ record { line = due.line; phase = Begun due.heard } = cc in
+          let phases : Waiting ≡ Begun due.heard = ap (λ (s : Standing). s.phase) both in
           absurd (cc);
     }
 
@@ -275,8 +276,8 @@ take-faithful state number time from drops asks replies alive faithful legal = r
     kept k job stands live =
         let due = owner-due state k job.line job alive stands refl live in
         let spares = subst (AllByRecursion (Spares state.lines job.line due.line.actor)) (sym legal.turn.1) tt in
-        left-next state step job.line due.line due.answers alive legal due.stands (await-none due.line.request due.wants) spares
-        ∙ sym (next_at-begun state.handles job.line due.line due.answers state.lines due.stands)
+        left-next state step job.line due.line due.heard alive legal due.stands (await-none due.line.request due.wants) spares
+        ∙ sym (next_at-begun state.handles job.line due.line due.heard state.lines due.stands)
         ∙ faithful.makes k job stands live
 
     moved : (k : ℕ) (job : Job) → job.phase ≢ Gone → Changed k number (Out from) state.jobs job → Makes (after state step) job
@@ -322,7 +323,7 @@ job_makes_call script steps number job rising run stands live = (faithful script
 
 phase-made : (handles : List Opened) (line : Line) (phase : Phase) (called : Call) → next_in handles (record { line = line; phase = phase }) ≡ Asks called → MayBeMade called
 phase-made handles line Waiting called is = absurd (cc)
-phase-made handles line (Begun answers) called is = asks_made (handle_of line handles) line.request answers called is
+phase-made handles line (Begun heard) called is = asks_made (handle_of line handles) line.request heard called is
 phase-made handles line Replied called is = absurd (cc)
 
 pub next-made : (handles : List Opened) (n : ℕ) (lines : List Standing) (called : Call) → next_at handles n lines ≡ Asks called → MayBeMade called

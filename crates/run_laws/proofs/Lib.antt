@@ -3,6 +3,7 @@ pub mod Lines
 pub mod Settled
 pub mod Orderly
 pub mod Jobs
+pub mod Questions
 pub mod Conversation
 pub mod Work
 pub mod Turn
@@ -11,6 +12,7 @@ pub mod Handles
 pub mod Spared
 pub mod Served
 pub mod Faithful
+pub mod Ends
 pub mod Quiet
 pub mod Slices
 pub mod Order

@@ -8,6 +8,7 @@ use Rattle.mount_model.specs.declared.event.Answered.{Answered}
 use Rattle.mount_model.specs.declared.standing.Phase.{Phase}
 use Rattle.mount_model.specs.declared.standing.Phase.TheVariants.{Begun, Replied}
 use Rattle.mount_model.specs.declared.standing.Standing.{Standing}
+use Rattle.mount_model.specs.Heard.{nothing_heard, question_of, told_by}
 use Rattle.mount_model.specs.Step.{Step}
 use Rattle.mount_model.specs.State.{ClientState, Job, line_at, job_at, change_line, hears, heard, lines_at, with_answered, with_replies, after, opening, state_after}
 use Rattle.mount_model.specs.Run.{AreRising}
@@ -42,10 +43,10 @@ lines-replies lines (reply ∷ replies) = lines-replies (with_answered lines rep
 
 pub lines-heard : (job : Option Job) (answer : Brief) (lines : List Standing) → map line_in (hears job answer lines) ≡ map line_in lines
 lines-heard None answer lines = refl
-lines-heard (Some job) answer lines = lines-change job.line (heard answer) lines
+lines-heard (Some job) answer lines = lines-change job.line (heard (told_by (question_of job.call) answer)) lines
 
 pub lines-event : (lines : List Standing) (jobs : List Job) (event : Event) → map line_in (lines_at lines jobs event) ≡ map line_in lines
-lines-event lines jobs (Begin line time) = lines-change line (λ phase. Begun []) lines
+lines-event lines jobs (Begin line time) = lines-change line (λ phase. Begun nothing_heard) lines
 lines-event lines jobs (Take job time from) = refl
 lines-event lines jobs (Done job position answer) = lines-heard (job_at job jobs) answer lines
 

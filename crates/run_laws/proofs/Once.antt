@@ -2,7 +2,6 @@
 use Rattle.std.proofs.Common.{◌≡◌, ℕ, ◌+◌, ◌<◌, ◌≤◌, List, [], ◌∷◌, map, fold, length, cond, Bool, true, false, ◌==◌, Option, Some, None, inl, inr, refl, sym, ap, ◌∙◌, subst, arith, eqb-true, eq-eqb, ne_eqb}
 use Rattle.std.specs.List.{AllByRecursion}
 use Rattle.bucket_model.specs.Along.{Along}
-use Rattle.bucket_model.specs.declared.answer.Brief.{Brief}
 use Rattle.mount_model.specs.declared.request.Request.{Request}
 use Rattle.mount_model.specs.declared.request.Request.TheVariants.{Put, Await, Stat, OpenRead, Read, Close, Delete}
 use Rattle.mount_model.specs.declared.request.Reply.{Reply}
@@ -15,6 +14,7 @@ use Rattle.mount_model.specs.declared.event.Event.TheVariants.{Begin, Take, Done
 use Rattle.mount_model.specs.declared.event.Owner.{Owner}
 use Rattle.mount_model.specs.declared.event.Ask.{Ask}
 use Rattle.mount_model.specs.declared.event.Answered.{Answered}
+use Rattle.mount_model.specs.declared.standing.Heard.{Heard}
 use Rattle.mount_model.specs.declared.standing.Phase.{Phase}
 use Rattle.mount_model.specs.declared.standing.Phase.TheVariants.{Waiting, Begun, Replied}
 use Rattle.mount_model.specs.declared.standing.Standing.{Standing}
@@ -62,20 +62,20 @@ moves-past m s replied before behind none moves = go (s.line.number == m) refl
 
 settled-moves-cons : (m number actor : ℕ) (request : Request) (phase : Phase) (lines : List Standing) → Rises reply_line number (due_awaits lines) → Moves m 0 (total (replies_to m) (due_awaits lines)) lines (settled lines) → Moves m 0 (total (replies_to m) (due_awaits (standing number actor request phase ∷ lines))) (standing number actor request phase ∷ lines) (settled (standing number actor request phase ∷ lines))
 settled-moves-cons m number actor request Waiting lines r moves = no-move m (standing number actor request Waiting ∷ lines)
-settled-moves-cons m number actor (Put key content) (Begun answers) lines r moves = no-move m (standing number actor (Put key content) (Begun answers) ∷ lines)
-settled-moves-cons m number actor Await (Begun answers) lines r moves = go (number == m) refl
+settled-moves-cons m number actor (Put key content) (Begun heard) lines r moves = no-move m (standing number actor (Put key content) (Begun heard) ∷ lines)
+settled-moves-cons m number actor Await (Begun heard) lines r moves = go (number == m) refl
   where
-    go : (b : Bool) → (number == m) ≡ b → Moves m 0 (total (replies_to m) (due_awaits (standing number actor Await (Begun answers) ∷ lines))) (standing number actor Await (Begun answers) ∷ lines) (standing number actor Await Replied ∷ settled lines)
+    go : (b : Bool) → (number == m) ≡ b → Moves m 0 (total (replies_to m) (due_awaits (standing number actor Await (Begun heard) ∷ lines))) (standing number actor Await (Begun heard) ∷ lines) (standing number actor Await Replied ∷ settled lines)
     go true is =
         let same : number ≡ m = eqb-true number m is in
         let none = no-replies m number (due_awaits lines) (omega arith) r in
         record { begun_is = rw is refl; replied_is = rw is (omega arith) }
     go false is = record { begun_is = rw is moves.begun_is; replied_is = rw is (let more = moves.replied_is in omega arith) }
-settled-moves-cons m number actor (Stat path) (Begun answers) lines r moves = no-move m (standing number actor (Stat path) (Begun answers) ∷ lines)
-settled-moves-cons m number actor (OpenRead name path) (Begun answers) lines r moves = no-move m (standing number actor (OpenRead name path) (Begun answers) ∷ lines)
-settled-moves-cons m number actor (Read name offset count) (Begun answers) lines r moves = no-move m (standing number actor (Read name offset count) (Begun answers) ∷ lines)
-settled-moves-cons m number actor (Close name) (Begun answers) lines r moves = no-move m (standing number actor (Close name) (Begun answers) ∷ lines)
-settled-moves-cons m number actor (Delete key) (Begun answers) lines r moves = no-move m (standing number actor (Delete key) (Begun answers) ∷ lines)
+settled-moves-cons m number actor (Stat path) (Begun heard) lines r moves = no-move m (standing number actor (Stat path) (Begun heard) ∷ lines)
+settled-moves-cons m number actor (OpenRead name path) (Begun heard) lines r moves = no-move m (standing number actor (OpenRead name path) (Begun heard) ∷ lines)
+settled-moves-cons m number actor (Read name offset count) (Begun heard) lines r moves = no-move m (standing number actor (Read name offset count) (Begun heard) ∷ lines)
+settled-moves-cons m number actor (Close name) (Begun heard) lines r moves = no-move m (standing number actor (Close name) (Begun heard) ∷ lines)
+settled-moves-cons m number actor (Delete key) (Begun heard) lines r moves = no-move m (standing number actor (Delete key) (Begun heard) ∷ lines)
 settled-moves-cons m number actor request Replied lines r moves = moves-past m (standing number actor request Replied) (total (replies_to m) (due_awaits lines)) lines (settled lines) (λ same. no-replies m number (due_awaits lines) (omega arith) r) moves
 
 settled-moves : (m above : ℕ) (lines : List Standing) → Rises number_of above lines → Moves m 0 (total (replies_to m) (due_awaits lines)) lines (settled lines)
@@ -107,9 +107,9 @@ begun-moves state event opened = by_number opened.n (λ m. Moves m (begins m eve
 
 -- the own reply
 
-own-moves : (n : ℕ) (line : Line) (answers : List Brief) (lines : List Standing) (jobs : List Job) (said : Reply) → IsOpen n line answers lines jobs → (m : ℕ) → Moves m 0 (total (replies_to m) (record { line = n; reply = said } ∷ [])) lines (change_line n (λ phase. Replied) lines)
-own-moves n line answers lines jobs said opened = by_number n (λ m. Moves m 0 (total (replies_to m) (record { line = n; reply = said } ∷ [])) lines (change_line n (λ phase. Replied) lines))
-    (let new = line_at-same n (λ phase. Replied) lines (record { line = line; phase = Begun answers }) opened.stands in
+own-moves : (n : ℕ) (line : Line) (heard : Heard) (lines : List Standing) (jobs : List Job) (said : Reply) → IsOpen n line heard lines jobs → (m : ℕ) → Moves m 0 (total (replies_to m) (record { line = n; reply = said } ∷ [])) lines (change_line n (λ phase. Replied) lines)
+own-moves n line heard lines jobs said opened = by_number n (λ m. Moves m 0 (total (replies_to m) (record { line = n; reply = said } ∷ [])) lines (change_line n (λ phase. Replied) lines))
+    (let new = line_at-same n (λ phase. Replied) lines (record { line = line; phase = Begun heard }) opened.stands in
     let old_begun : for_phase begun_in (line_at n lines) ≡ 1 = ap (for_phase begun_in) opened.stands in
     let old_replied : for_phase replied_in (line_at n lines) ≡ 0 = ap (for_phase replied_in) opened.stands in
     let new_begun : for_phase begun_in (line_at n (change_line n (λ phase. Replied) lines)) ≡ 1 = ap (for_phase begun_in) new in
@@ -125,19 +125,19 @@ own-moves n line answers lines jobs said opened = by_number n (λ m. Moves m 0 (
     let none : replies_to m (record { line = n; reply = said }) ≡ 0 = rw other refl in
     record { begun_is = omega arith; replied_is = omega arith })
 
-turn-moves : (n count : ℕ) (owner : Owner) (handle : Option Handle) (line : Line) (answers : List Brief) (lines : List Standing) (jobs : List Job) (asks : List Ask) (own : List Answered) → IsOpen n line answers lines jobs → TakesTurn count (TurnOf n owner (next_of handle line.request answers)) asks own → (m : ℕ) → Moves m 0 (total (replies_to m) own) lines (with_replies lines own)
-turn-moves n count owner handle line answers lines jobs asks own opened turn m = go (next_of handle line.request answers) turn
+turn-moves : (n count : ℕ) (owner : Owner) (handle : Option Handle) (line : Line) (heard : Heard) (lines : List Standing) (jobs : List Job) (asks : List Ask) (own : List Answered) → IsOpen n line heard lines jobs → TakesTurn count (TurnOf n owner (next_of handle line.request heard)) asks own → (m : ℕ) → Moves m 0 (total (replies_to m) own) lines (with_replies lines own)
+turn-moves n count owner handle line heard lines jobs asks own opened turn m = go (next_of handle line.request heard) turn
   where
     moves_by : (replied : List Answered) → own ≡ replied → Moves m 0 (total (replies_to m) replied) lines (with_replies lines replied) → Moves m 0 (total (replies_to m) own) lines (with_replies lines own)
     moves_by replied e moves = subst (λ (t : List Answered). Moves m 0 (total (replies_to m) t) lines (with_replies lines t)) (sym e) moves
 
     go : (next : Next) → TakesTurn count (TurnOf n owner next) asks own → Moves m 0 (total (replies_to m) own) lines (with_replies lines own)
     go (Asks called) (inl t) = moves_by [] t.1 (no-move m lines)
-    go (Asks called) (inr t) = moves_by _ t.1 (own-moves n line answers lines jobs (reply.Failed Enomem) opened m)
-    go (Replies said) t = moves_by _ t.1 (own-moves n line answers lines jobs said opened m)
-    go (Opens version) (inl t) = moves_by _ t.1 (own-moves n line answers lines jobs (reply.Open version.size) opened m)
-    go (Opens version) (inr t) = moves_by _ t.1 (own-moves n line answers lines jobs (reply.Failed Enomem) opened m)
-    go (Gives count) t = moves_by _ t.2.1 (own-moves n line answers lines jobs (reply.Data t.0) opened m)
+    go (Asks called) (inr t) = moves_by _ t.1 (own-moves n line heard lines jobs (reply.Failed Enomem) opened m)
+    go (Replies said) t = moves_by _ t.1 (own-moves n line heard lines jobs said opened m)
+    go (Opens version) (inl t) = moves_by _ t.1 (own-moves n line heard lines jobs (reply.Open version.size) opened m)
+    go (Opens version) (inr t) = moves_by _ t.1 (own-moves n line heard lines jobs (reply.Failed Enomem) opened m)
+    go (Gives count) t = moves_by _ t.2.1 (own-moves n line heard lines jobs (reply.Data t.0) opened m)
     go Waits t = moves_by [] t.1 (no-move m lines)
 
 -- a step
@@ -147,7 +147,7 @@ moves-then m begun first second before between behind f s = let f1 = f.begun_is 
 
 opened-moves : (state : ClientState) (event : Event) (asks : List Ask) (own : List Answered) (m : ℕ) → IsOpened state event → TakesTurn (length state.jobs + 1) (turn_at state event) asks own → Moves m (begins m event) (0 + total (replies_to m) own) state.lines (with_replies (lines_at state.lines state.jobs event) own)
 opened-moves state event asks own m opened takes = moves-then m (begins m event) 0 (total (replies_to m) own) state.lines (lines_at state.lines state.jobs event) (with_replies (lines_at state.lines state.jobs event) own) (begun-moves state event opened m)
-    (turn-moves opened.n (length state.jobs + 1) opened.owner (handle_of opened.line state.handles) opened.line opened.answers (lines_at state.lines state.jobs event) _ asks own opened.now (subst (λ (t : Turn). TakesTurn (length state.jobs + 1) t asks own) opened.turn takes) m)
+    (turn-moves opened.n (length state.jobs + 1) opened.owner (handle_of opened.line state.handles) opened.line opened.heard (lines_at state.lines state.jobs event) _ asks own opened.now (subst (λ (t : Turn). TakesTurn (length state.jobs + 1) t asks own) opened.turn takes) m)
 
 event-moves : (state : ClientState) (event : Event) (asks : List Ask) (own : List Answered) (m : ℕ) → IsAlive state → MayCome state event → TakesTurn (length state.jobs + 1) (turn_at state event) asks own → Moves m (begins m event) (0 + total (replies_to m) own) state.lines (with_replies (lines_at state.lines state.jobs event) own)
 event-moves state (Begin n time) asks own m alive may takes = opened-moves state (Begin n time) asks own m (begin-opens state n time alive may.1) takes
@@ -208,7 +208,7 @@ replied_once script steps m rising run =
 
 phase-most : (phase : Phase) → (replied_in phase ≤ begun_in phase) × (begun_in phase ≤ 1)
 phase-most Waiting = omega arith
-phase-most (Begun answers) = omega arith
+phase-most (Begun heard) = omega arith
 phase-most Replied = omega arith
 
 most : (o : Option Standing) → (for_phase replied_in o ≤ for_phase begun_in o) × (for_phase begun_in o ≤ 1)

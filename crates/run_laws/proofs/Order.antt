@@ -36,13 +36,13 @@ change-twice n f (s ∷ lines) = go (s.line.number == n) refl (change-twice n f 
 -- where nothing was due, what becomes due by a reply stands below it
 due-past-cons : (n number actor : ℕ) (request : Request) (phase : Phase) (lines others : List Standing) → due_awaits (standing number actor request phase ∷ lines) ≡ [] → (due_awaits lines ≡ [] → Rises reply_line n (due_awaits others)) → Rises reply_line n (due_awaits (standing number actor request phase ∷ others))
 due-past-cons n number actor request Waiting lines others e ih = tt
-due-past-cons n number actor (Put key content) (Begun answers) lines others e ih = tt
-due-past-cons n number actor Await (Begun answers) lines others e ih = absurd (cc)
-due-past-cons n number actor (Stat path) (Begun answers) lines others e ih = tt
-due-past-cons n number actor (OpenRead name path) (Begun answers) lines others e ih = tt
-due-past-cons n number actor (Read name offset count) (Begun answers) lines others e ih = tt
-due-past-cons n number actor (Close name) (Begun answers) lines others e ih = tt
-due-past-cons n number actor (Delete key) (Begun answers) lines others e ih = tt
+due-past-cons n number actor (Put key content) (Begun heard) lines others e ih = tt
+due-past-cons n number actor Await (Begun heard) lines others e ih = absurd (cc)
+due-past-cons n number actor (Stat path) (Begun heard) lines others e ih = tt
+due-past-cons n number actor (OpenRead name path) (Begun heard) lines others e ih = tt
+due-past-cons n number actor (Read name offset count) (Begun heard) lines others e ih = tt
+due-past-cons n number actor (Close name) (Begun heard) lines others e ih = tt
+due-past-cons n number actor (Delete key) (Begun heard) lines others e ih = tt
 due-past-cons n number actor request Replied lines others e ih = ih e
 
 due-past : (above n : ℕ) (lines : List Standing) → Rises number_of above lines → due_awaits lines ≡ [] → Rises reply_line n (due_awaits (change_line n (λ phase. Replied) lines))
@@ -62,7 +62,7 @@ abbrev Ordered : List Standing → List Ask → List Answered → Type 0
 Ordered lines asks own = Rises asked_job 0 asks × Rises reply_line 0 (own ++ due_awaits (with_replies lines own))
 
 order-turn : (state : ClientState) (event : Event) (asks : List Ask) (own : List Answered) → IsAlive state → IsOpened state event → TakesTurn (length state.jobs + 1) (turn_at state event) asks own → Ordered (lines_at state.lines state.jobs event) asks own
-order-turn state event asks own alive opened takes = go (next_of (handle_of opened.line state.handles) opened.line.request opened.answers) (subst (λ (t : Turn). TakesTurn (length state.jobs + 1) t asks own) opened.turn takes)
+order-turn state event asks own alive opened takes = go (next_of (handle_of opened.line state.handles) opened.line.request opened.heard) (subst (λ (t : Turn). TakesTurn (length state.jobs + 1) t asks own) opened.turn takes)
   where
     lines : List Standing
     lines = lines_at state.lines state.jobs event

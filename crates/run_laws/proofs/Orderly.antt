@@ -1,12 +1,14 @@
 -- Each actor does one thing at a time, and which lines may begin.
 use Rattle.std.proofs.Common.{◌≡◌, ℕ, ◌<◌, List, [], ◌∷◌, cond, Bool, true, false, ◌||◌, ◌==◌, if◌then◌else◌, Some, refl, sym, ap, ◌∙◌, arith, eqb-true, ne_eqb, subst, eq-eqb}
-use Rattle.bucket_model.specs.declared.answer.Brief.{Brief}
 use Rattle.mount_model.specs.declared.request.Request.{Request}
 use Rattle.mount_model.specs.declared.request.Request.TheVariants.{Put, Await, Stat, OpenRead, Read, Close, Delete}
 use Rattle.mount_model.specs.declared.request.Line.{Line}
+use Rattle.mount_model.specs.declared.standing.Heard.{Heard}
 use Rattle.mount_model.specs.declared.standing.Phase.{Phase}
 use Rattle.mount_model.specs.declared.standing.Phase.TheVariants.{Waiting, Begun, Replied}
 use Rattle.mount_model.specs.declared.standing.Standing.{Standing}
+use Rattle.mount_model.specs.declared.standing.Told.{Told}
+use Rattle.mount_model.specs.Heard.{nothing_heard}
 use Rattle.mount_model.specs.State.{line_at, change_line, heard}
 use Rattle.mount_model.specs.Run.{is_among, startable_from}
 use Rattle.run_laws.specs.Alive.{AreOrderly}
@@ -46,12 +48,12 @@ Frees-again actor more less among f = record { free = λ a e. go a (actor == a) 
 -- who is busy for the lines below
 abbrev pub busy_below : Phase → ℕ → List ℕ → List ℕ
 busy_below Waiting actor busy = actor ∷ busy
-busy_below (Begun answers) actor busy = actor ∷ busy
+busy_below (Begun heard) actor busy = actor ∷ busy
 busy_below Replied actor busy = busy
 
 orderly-tail-cons : (busy : List ℕ) (line : Line) (phase : Phase) (lines others : List Standing) → (AreOrderly (busy_below phase line.actor busy) lines → AreOrderly (busy_below phase line.actor busy) others) → AreOrderly busy (record { line = line; phase = phase } ∷ lines) → AreOrderly busy (record { line = line; phase = phase } ∷ others)
 orderly-tail-cons busy line Waiting lines others f o = f o
-orderly-tail-cons busy line (Begun answers) lines others f o = (o.0, f o.1)
+orderly-tail-cons busy line (Begun heard) lines others f o = (o.0, f o.1)
 orderly-tail-cons busy line Replied lines others f o = (o.0, f o.1)
 
 -- other lines below
@@ -60,7 +62,7 @@ orderly-tail busy s lines others f o = orderly-tail-cons busy s.line s.phase lin
 
 orderly-fewer-cons : (more less : List ℕ) (line : Line) (phase : Phase) (lines : List Standing) → Frees more less → ((more less : List ℕ) → Frees more less → AreOrderly more lines → AreOrderly less lines) → AreOrderly more (record { line = line; phase = phase } ∷ lines) → AreOrderly less (record { line = line; phase = phase } ∷ lines)
 orderly-fewer-cons more less line Waiting lines f ih o = ih (line.actor ∷ more) (line.actor ∷ less) (Frees-both line.actor more less f) o
-orderly-fewer-cons more less line (Begun answers) lines f ih o = (f.free line.actor o.0, ih (line.actor ∷ more) (line.actor ∷ less) (Frees-both line.actor more less f) o.1)
+orderly-fewer-cons more less line (Begun heard) lines f ih o = (f.free line.actor o.0, ih (line.actor ∷ more) (line.actor ∷ less) (Frees-both line.actor more less f) o.1)
 orderly-fewer-cons more less line Replied lines f ih o = (f.free line.actor o.0, ih more less f o.1)
 
 pub orderly-fewer : (lines : List Standing) (more less : List ℕ) → Frees more less → AreOrderly more lines → AreOrderly less lines
@@ -68,48 +70,48 @@ orderly-fewer [] more less f o = tt
 orderly-fewer (s ∷ lines) more less f o = orderly-fewer-cons more less s.line s.phase lines f (orderly-fewer lines) o
 
 -- a line that hears stays begun
-orderly-heard-cons : (busy : List ℕ) (answer : Brief) (line : Line) (phase : Phase) (lines : List Standing) → AreOrderly busy (record { line = line; phase = phase } ∷ lines) → AreOrderly busy (record { line = line; phase = heard answer phase } ∷ lines)
-orderly-heard-cons busy answer line Waiting lines o = o
-orderly-heard-cons busy answer line (Begun answers) lines o = o
-orderly-heard-cons busy answer line Replied lines o = o
+orderly-heard-cons : (busy : List ℕ) (told : Told) (line : Line) (phase : Phase) (lines : List Standing) → AreOrderly busy (record { line = line; phase = phase } ∷ lines) → AreOrderly busy (record { line = line; phase = heard told phase } ∷ lines)
+orderly-heard-cons busy told line Waiting lines o = o
+orderly-heard-cons busy told line (Begun before) lines o = o
+orderly-heard-cons busy told line Replied lines o = o
 
-pub orderly-heard : (busy : List ℕ) (n : ℕ) (answer : Brief) (lines : List Standing) → AreOrderly busy lines → AreOrderly busy (change_line n (heard answer) lines)
-orderly-heard busy n answer [] o = tt
-orderly-heard busy n answer (s ∷ lines) o = go (s.line.number == n) (orderly-tail busy s lines (change_line n (heard answer) lines) (orderly-heard (busy_below s.phase s.line.actor busy) n answer lines) o)
+pub orderly-heard : (busy : List ℕ) (n : ℕ) (told : Told) (lines : List Standing) → AreOrderly busy lines → AreOrderly busy (change_line n (heard told) lines)
+orderly-heard busy n told [] o = tt
+orderly-heard busy n told (s ∷ lines) o = go (s.line.number == n) (orderly-tail busy s lines (change_line n (heard told) lines) (orderly-heard (busy_below s.phase s.line.actor busy) n told lines) o)
   where
-    go : (b : Bool) → AreOrderly busy (s ∷ change_line n (heard answer) lines) → AreOrderly busy ((if b then changed (heard answer) s else s) ∷ change_line n (heard answer) lines)
-    go true o = orderly-heard-cons busy answer s.line s.phase (change_line n (heard answer) lines) o
+    go : (b : Bool) → AreOrderly busy (s ∷ change_line n (heard told) lines) → AreOrderly busy ((if b then changed (heard told) s else s) ∷ change_line n (heard told) lines)
+    go true o = orderly-heard-cons busy told s.line s.phase (change_line n (heard told) lines) o
     go false o = o
 
 -- a line that has its reply leaves its actor free
-orderly-replied-cons : (busy : List ℕ) (line : Line) (phase : Phase) (answers : List Brief) (lines : List Standing) → phase ≡ Begun answers → AreOrderly busy (record { line = line; phase = phase } ∷ lines) → AreOrderly busy (record { line = line; phase = Replied } ∷ lines)
-orderly-replied-cons busy line Waiting answers lines is o = absurd (cc)
-orderly-replied-cons busy line (Begun others) answers lines is o = (o.0, orderly-fewer lines (line.actor ∷ busy) busy (Frees-first line.actor busy) o.1)
-orderly-replied-cons busy line Replied answers lines is o = absurd (cc)
+orderly-replied-cons : (busy : List ℕ) (line : Line) (phase : Phase) (heard : Heard) (lines : List Standing) → phase ≡ Begun heard → AreOrderly busy (record { line = line; phase = phase } ∷ lines) → AreOrderly busy (record { line = line; phase = Replied } ∷ lines)
+orderly-replied-cons busy line Waiting heard lines is o = absurd (cc)
+orderly-replied-cons busy line (Begun others) heard lines is o = (o.0, orderly-fewer lines (line.actor ∷ busy) busy (Frees-first line.actor busy) o.1)
+orderly-replied-cons busy line Replied heard lines is o = absurd (cc)
 
-pub orderly-replied : (above n : ℕ) (busy : List ℕ) (lines : List Standing) (s : Standing) (answers : List Brief) → Rises number_of above lines → line_at n lines ≡ Some s → s.phase ≡ Begun answers → AreOrderly busy lines → AreOrderly busy (change_line n (λ phase. Replied) lines)
-orderly-replied above n busy [] s answers r stands is o = tt
-orderly-replied above n busy (first ∷ lines) s answers r stands is o = go (first.line.number == n) refl stands (λ e. orderly-tail busy first lines (change_line n (λ phase. Replied) lines) (orderly-replied first.line.number n (busy_below first.phase first.line.actor busy) lines s answers r.1 e is) o)
+pub orderly-replied : (above n : ℕ) (busy : List ℕ) (lines : List Standing) (s : Standing) (heard : Heard) → Rises number_of above lines → line_at n lines ≡ Some s → s.phase ≡ Begun heard → AreOrderly busy lines → AreOrderly busy (change_line n (λ phase. Replied) lines)
+orderly-replied above n busy [] s heard r stands is o = tt
+orderly-replied above n busy (first ∷ lines) s heard r stands is o = go (first.line.number == n) refl stands (λ e. orderly-tail busy first lines (change_line n (λ phase. Replied) lines) (orderly-replied first.line.number n (busy_below first.phase first.line.actor busy) lines s heard r.1 e is) o)
   where
     go : (b : Bool) → (first.line.number == n) ≡ b → cond b (Some first) (line_at n lines) ≡ Some s → (line_at n lines ≡ Some s → AreOrderly busy (first ∷ change_line n (λ phase. Replied) lines)) → AreOrderly busy ((if b then changed (λ phase. Replied) first else first) ∷ change_line n (λ phase. Replied) lines)
     go true number e ih =
         let same : first ≡ s = cc in
         let number_is : first.line.number ≡ n = eqb-true first.line.number n number in
-        let begun : first.phase ≡ Begun answers = ap (λ (t : Standing). t.phase) same ∙ is in
+        let begun : first.phase ≡ Begun heard = ap (λ (t : Standing). t.phase) same ∙ is in
         let below : change_line n (λ phase. Replied) lines ≡ lines = change_at-none number_of (changed (λ phase. Replied)) first.line.number n lines (omega arith) r.1 in
-        rw below (orderly-replied-cons busy first.line first.phase answers lines begun o)
+        rw below (orderly-replied-cons busy first.line first.phase heard lines begun o)
     go false number e ih = ih e
 
 -- once the awaits that are due have their replies
 orderly-settled-cons : (busy : List ℕ) (number actor : ℕ) (request : Request) (phase : Phase) (lines : List Standing) → ((busy : List ℕ) → AreOrderly busy lines → AreOrderly busy (settled lines)) → AreOrderly busy (standing number actor request phase ∷ lines) → AreOrderly busy (settled (standing number actor request phase ∷ lines))
 orderly-settled-cons busy number actor request Waiting lines ih o = o
-orderly-settled-cons busy number actor (Put key content) (Begun answers) lines ih o = o
-orderly-settled-cons busy number actor Await (Begun answers) lines ih o = (o.0, orderly-fewer (settled lines) (actor ∷ busy) busy (Frees-first actor busy) (ih (actor ∷ busy) o.1))
-orderly-settled-cons busy number actor (Stat path) (Begun answers) lines ih o = o
-orderly-settled-cons busy number actor (OpenRead name path) (Begun answers) lines ih o = o
-orderly-settled-cons busy number actor (Read name offset count) (Begun answers) lines ih o = o
-orderly-settled-cons busy number actor (Close name) (Begun answers) lines ih o = o
-orderly-settled-cons busy number actor (Delete key) (Begun answers) lines ih o = o
+orderly-settled-cons busy number actor (Put key content) (Begun heard) lines ih o = o
+orderly-settled-cons busy number actor Await (Begun heard) lines ih o = (o.0, orderly-fewer (settled lines) (actor ∷ busy) busy (Frees-first actor busy) (ih (actor ∷ busy) o.1))
+orderly-settled-cons busy number actor (Stat path) (Begun heard) lines ih o = o
+orderly-settled-cons busy number actor (OpenRead name path) (Begun heard) lines ih o = o
+orderly-settled-cons busy number actor (Read name offset count) (Begun heard) lines ih o = o
+orderly-settled-cons busy number actor (Close name) (Begun heard) lines ih o = o
+orderly-settled-cons busy number actor (Delete key) (Begun heard) lines ih o = o
 orderly-settled-cons busy number actor request Replied lines ih o = (o.0, ih busy o.1)
 
 pub orderly-settled : (lines : List Standing) (busy : List ℕ) → AreOrderly busy lines → AreOrderly busy (settled lines)
@@ -132,7 +134,7 @@ starts-waiting n busy line lines false is e = go (line.number == n) refl e
 
 starts : (n : ℕ) (busy : List ℕ) (line : Line) (phase : Phase) (lines : List Standing) → is_among n (startable_from busy (record { line = line; phase = phase } ∷ lines)) ≡ true → Starts n busy line phase lines
 starts n busy line Waiting lines e = starts-waiting n busy line lines (is_among line.actor busy) refl e
-starts n busy line (Begun answers) lines e = Below (line.actor ∷ busy) e (λ less f. Frees-both line.actor busy less f)
+starts n busy line (Begun heard) lines e = Below (line.actor ∷ busy) e (λ less f. Frees-both line.actor busy less f)
 starts n busy line Replied lines e = Below busy e (λ less f. f)
 
 pub startable-above : (above n : ℕ) (busy : List ℕ) (lines : List Standing) → Rises number_of above lines → is_among n (startable_from busy lines) ≡ true → above < n
@@ -158,23 +160,23 @@ startable-found above n busy (s ∷ lines) r e = go (starts n busy s.line s.phas
         record { line = s.line; stands = rw same (ap (λ p. Some (record { line = s.line; phase = p })) waits) }
     go (Below now e f) ih = let found = ih now e in record { line = found.line; stands = item_at-later number_of above n s lines (record { line = found.line; phase = Waiting }) r found.stands }
 
-orderly-begun-cons : (busy : List ℕ) (line : Line) (phase : Phase) (lines : List Standing) → phase ≡ Waiting → is_among line.actor busy ≡ false → AreOrderly busy (record { line = line; phase = phase } ∷ lines) → AreOrderly busy (record { line = line; phase = Begun [] } ∷ lines)
+orderly-begun-cons : (busy : List ℕ) (line : Line) (phase : Phase) (lines : List Standing) → phase ≡ Waiting → is_among line.actor busy ≡ false → AreOrderly busy (record { line = line; phase = phase } ∷ lines) → AreOrderly busy (record { line = line; phase = Begun nothing_heard } ∷ lines)
 orderly-begun-cons busy line Waiting lines is free o = (free, o)
-orderly-begun-cons busy line (Begun answers) lines is free o = absurd (cc)
+orderly-begun-cons busy line (Begun heard) lines is free o = absurd (cc)
 orderly-begun-cons busy line Replied lines is free o = absurd (cc)
 
-pub orderly-begun : (above n : ℕ) (more less : List ℕ) (lines : List Standing) → Rises number_of above lines → Frees more less → is_among n (startable_from more lines) ≡ true → AreOrderly less lines → AreOrderly less (change_line n (λ phase. Begun []) lines)
+pub orderly-begun : (above n : ℕ) (more less : List ℕ) (lines : List Standing) → Rises number_of above lines → Frees more less → is_among n (startable_from more lines) ≡ true → AreOrderly less lines → AreOrderly less (change_line n (λ phase. Begun nothing_heard) lines)
 orderly-begun above n more less [] r f e o = tt
 orderly-begun above n more less (s ∷ lines) r f e o = go (starts n more s.line s.phase lines e) (λ now later g. orderly-begun s.line.number n now (busy_below s.phase s.line.actor less) lines r.1 g later)
   where
     go : Starts n more s.line s.phase lines
-        → ((now : List ℕ) → is_among n (startable_from now lines) ≡ true → Frees now (busy_below s.phase s.line.actor less) → AreOrderly (busy_below s.phase s.line.actor less) lines → AreOrderly (busy_below s.phase s.line.actor less) (change_line n (λ phase. Begun []) lines))
-        → AreOrderly less (change_line n (λ phase. Begun []) (s ∷ lines))
+        → ((now : List ℕ) → is_among n (startable_from now lines) ≡ true → Frees now (busy_below s.phase s.line.actor less) → AreOrderly (busy_below s.phase s.line.actor less) lines → AreOrderly (busy_below s.phase s.line.actor less) (change_line n (λ phase. Begun nothing_heard) lines))
+        → AreOrderly less (change_line n (λ phase. Begun nothing_heard) (s ∷ lines))
     go (Here is waits free) ih =
         let same : (s.line.number == n) ≡ true = ap (λ k. k == n) is ∙ eq-eqb n n refl in
-        let below : change_line n (λ phase. Begun []) lines ≡ lines = change_at-none number_of (changed (λ phase. Begun [])) s.line.number n lines (omega arith) r.1 in
+        let below : change_line n (λ phase. Begun nothing_heard) lines ≡ lines = change_at-none number_of (changed (λ phase. Begun nothing_heard)) s.line.number n lines (omega arith) r.1 in
         rw (same, below) (orderly-begun-cons less s.line s.phase lines waits (f.free s.line.actor free) o)
     go (Below now later g) ih =
         let past : s.line.number < n = startable-above s.line.number n now lines r.1 later in
         let other : (s.line.number == n) ≡ false = ne_eqb s.line.number n (omega arith) in
-        rw other (orderly-tail less s lines (change_line n (λ phase. Begun []) lines) (ih now later (g less f)) o)
+        rw other (orderly-tail less s lines (change_line n (λ phase. Begun nothing_heard) lines) (ih now later (g less f)) o)

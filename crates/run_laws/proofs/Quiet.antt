@@ -31,13 +31,13 @@ each-line P above (s ∷ lines) r all = (all s.line.number s (item_at-first numb
 
 answered-cons : (number actor : ℕ) (request : Request) (phase : Phase) (lines : List Standing) → jobs_wanted (Some (standing number actor request phase)) ≡ 0 → due_awaits (standing number actor request phase ∷ lines) ≡ [] → startable_from [] (standing number actor request phase ∷ lines) ≡ [] → (due_awaits lines ≡ [] → startable_from [] lines ≡ [] → AllByRecursion (λ s. s.phase ≡ Replied) lines) → AllByRecursion (λ s. s.phase ≡ Replied) (standing number actor request phase ∷ lines)
 answered-cons number actor request Waiting lines none due start ih = absurd (cc)
-answered-cons number actor (Put key content) (Begun answers) lines none due start ih = absurd (omega arith)
-answered-cons number actor Await (Begun answers) lines none due start ih = absurd (cc)
-answered-cons number actor (Stat path) (Begun answers) lines none due start ih = absurd (omega arith)
-answered-cons number actor (OpenRead name path) (Begun answers) lines none due start ih = absurd (omega arith)
-answered-cons number actor (Read name offset count) (Begun answers) lines none due start ih = absurd (omega arith)
-answered-cons number actor (Close name) (Begun answers) lines none due start ih = absurd (omega arith)
-answered-cons number actor (Delete key) (Begun answers) lines none due start ih = absurd (omega arith)
+answered-cons number actor (Put key content) (Begun heard) lines none due start ih = absurd (omega arith)
+answered-cons number actor Await (Begun heard) lines none due start ih = absurd (cc)
+answered-cons number actor (Stat path) (Begun heard) lines none due start ih = absurd (omega arith)
+answered-cons number actor (OpenRead name path) (Begun heard) lines none due start ih = absurd (omega arith)
+answered-cons number actor (Read name offset count) (Begun heard) lines none due start ih = absurd (omega arith)
+answered-cons number actor (Close name) (Begun heard) lines none due start ih = absurd (omega arith)
+answered-cons number actor (Delete key) (Begun heard) lines none due start ih = absurd (omega arith)
 answered-cons number actor request Replied lines none due start ih = (refl, ih due start)
 
 answered : (lines : List Standing) → AllByRecursion (λ s. jobs_wanted (Some s) ≡ 0) lines → due_awaits lines ≡ [] → startable_from [] lines ≡ [] → AllByRecursion (λ s. s.phase ≡ Replied) lines

@@ -2,9 +2,9 @@
 use Rattle.std.proofs.Common.{◌≡◌, ◌≢◌, ℕ, zero, suc, ◌≤◌, List, [], ◌∷◌, Bool, true, false, ◌==◌, if◌then◌else◌, Option, Some, None, refl, ap, ◌∙◌, arith, eqb-true}
 use Rattle.std.proofs.lemmas.Bool.{eqb-false}
 use Rattle.bucket_model.specs.declared.call.Call.{Call}
-use Rattle.bucket_model.specs.declared.answer.Brief.{Brief}
 use Rattle.mount_model.specs.declared.request.Request.{Request}
 use Rattle.mount_model.specs.declared.request.Request.TheVariants.{Put, Await, Stat, OpenRead, Read, Close, Delete}
+use Rattle.mount_model.specs.declared.standing.Heard.{Heard}
 use Rattle.mount_model.specs.declared.standing.Phase.{Phase}
 use Rattle.mount_model.specs.declared.standing.Phase.TheVariants.{Waiting, Begun, Replied}
 use Rattle.mount_model.specs.declared.standing.Standing.{Standing}
@@ -23,7 +23,7 @@ await-none request one is = let none : jobs_at_once request ≡ 0 = ap jobs_at_o
 pub served : (state : ClientState) (number : ℕ) (job : Job) → IsAlive state → job_at number state.jobs ≡ Some job → job.phase ≢ Gone → IsOwned state job
 served state number job alive stands live =
     let due = owner-due state number job.line job alive stands refl live in
-    record { standing = record { line = due.line; phase = Begun due.answers }; stands = due.stands; answers = due.answers; begun = refl; no_await = await-none due.line.request due.wants }
+    record { standing = record { line = due.line; phase = Begun due.heard }; stands = due.stands; heard = due.heard; begun = refl; no_await = await-none due.line.request due.wants }
 
 pub owner_turn : (state : ClientState) (number from : ℕ) (job : Job) → IsAlive state → job_at number state.jobs ≡ Some job → job.phase ≡ Out from → IsOwned state job
 owner_turn state number from job alive stands out = served state number job alive stands (λ gone. absurd (cc))
@@ -41,7 +41,7 @@ wanted-request (Delete key) = omega arith
 
 wanted-phase : (phase : Phase) (count : ℕ) → count ≤ 1 → if_begun phase count ≤ 1
 wanted-phase Waiting count h = omega arith
-wanted-phase (Begun answers) count h = h
+wanted-phase (Begun heard) count h = h
 wanted-phase Replied count h = omega arith
 
 wanted-most : (o : Option Standing) → jobs_wanted o ≤ 1
@@ -102,8 +102,8 @@ working-request (Read name offset count) other = refl
 working-request (Close name) other = refl
 working-request (Delete key) other = refl
 
-pub working : (state : ClientState) (n : ℕ) (s : Standing) (answers : List Brief) → IsAlive state → line_at n state.lines ≡ Some s → s.phase ≡ Begun answers → s.line.request ≢ Await → HasJob state n
-working state n s answers alive stands begun other =
+pub working : (state : ClientState) (n : ℕ) (s : Standing) (heard : Heard) → IsAlive state → line_at n state.lines ≡ Some s → s.phase ≡ Begun heard → s.line.request ≢ Await → HasJob state n
+working state n s heard alive stands begun other =
     let wanted : jobs_wanted (line_at n state.lines) ≡ 1 = ap jobs_wanted stands ∙ ap (λ (p : Phase). if_begun p (jobs_at_once s.line.request)) begun ∙ working-request s.line.request other in
     let all = alive.balanced n in
     let found = live-found 0 n state.jobs (Rises-jobs 0 state.jobs alive.numbered) (omega arith) in

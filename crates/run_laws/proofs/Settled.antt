@@ -23,7 +23,7 @@ settled (s ∷ lines) = by_phase s.phase (settled lines)
   where
     by_phase : Phase → List Standing → List Standing
     by_phase Waiting more = s ∷ lines
-    by_phase (Begun answers) more = by_request s.line.request
+    by_phase (Begun heard) more = by_request s.line.request
       where
         by_request : Request → List Standing
         by_request (Put key content) = s ∷ lines
@@ -38,13 +38,13 @@ settled (s ∷ lines) = by_phase s.phase (settled lines)
 -- the awaits that are due stand in order
 due-rise-cons : (above number actor : ℕ) (request : Request) (phase : Phase) (lines : List Standing) → above < number → Rises reply_line number (due_awaits lines) → Rises reply_line above (due_awaits (standing number actor request phase ∷ lines))
 due-rise-cons above number actor request Waiting lines h r = tt
-due-rise-cons above number actor (Put key content) (Begun answers) lines h r = tt
-due-rise-cons above number actor Await (Begun answers) lines h r = (h, r)
-due-rise-cons above number actor (Stat path) (Begun answers) lines h r = tt
-due-rise-cons above number actor (OpenRead name path) (Begun answers) lines h r = tt
-due-rise-cons above number actor (Read name offset count) (Begun answers) lines h r = tt
-due-rise-cons above number actor (Close name) (Begun answers) lines h r = tt
-due-rise-cons above number actor (Delete key) (Begun answers) lines h r = tt
+due-rise-cons above number actor (Put key content) (Begun heard) lines h r = tt
+due-rise-cons above number actor Await (Begun heard) lines h r = (h, r)
+due-rise-cons above number actor (Stat path) (Begun heard) lines h r = tt
+due-rise-cons above number actor (OpenRead name path) (Begun heard) lines h r = tt
+due-rise-cons above number actor (Read name offset count) (Begun heard) lines h r = tt
+due-rise-cons above number actor (Close name) (Begun heard) lines h r = tt
+due-rise-cons above number actor (Delete key) (Begun heard) lines h r = tt
 due-rise-cons above number actor request Replied lines h r = Rises-below reply_line above number (due_awaits lines) (omega arith) r
 
 pub due-rise : (above : ℕ) (lines : List Standing) → Rises number_of above lines → Rises reply_line above (due_awaits lines)
@@ -62,17 +62,17 @@ replies-past above s lines (reply ∷ replies) h r =
 
 settled-cons : (number actor : ℕ) (request : Request) (phase : Phase) (lines : List Standing) → Rises number_of number lines → with_replies lines (due_awaits lines) ≡ settled lines → with_replies (standing number actor request phase ∷ lines) (due_awaits (standing number actor request phase ∷ lines)) ≡ settled (standing number actor request phase ∷ lines)
 settled-cons number actor request Waiting lines r e = refl
-settled-cons number actor (Put key content) (Begun answers) lines r e = refl
-settled-cons number actor Await (Begun answers) lines r e =
+settled-cons number actor (Put key content) (Begun heard) lines r e = refl
+settled-cons number actor Await (Begun heard) lines r e =
     let same : (number == number) ≡ true = eq-eqb number number refl in
     let below : change_line number (λ phase. Replied) lines ≡ lines = change_at-none number_of (changed (λ phase. Replied)) number number lines (omega arith) r in
-    let first : change_line number (λ phase. Replied) (standing number actor Await (Begun answers) ∷ lines) ≡ standing number actor Await Replied ∷ lines = rw same (ap (λ t. standing number actor Await Replied ∷ t) below) in
+    let first : change_line number (λ phase. Replied) (standing number actor Await (Begun heard) ∷ lines) ≡ standing number actor Await Replied ∷ lines = rw same (ap (λ t. standing number actor Await Replied ∷ t) below) in
     ap (λ t. with_replies t (due_awaits lines)) first ∙ replies-past number (standing number actor Await Replied) lines (due_awaits lines) (omega arith) (due-rise number lines r) ∙ ap (λ t. standing number actor Await Replied ∷ t) e
-settled-cons number actor (Stat path) (Begun answers) lines r e = refl
-settled-cons number actor (OpenRead name path) (Begun answers) lines r e = refl
-settled-cons number actor (Read name offset count) (Begun answers) lines r e = refl
-settled-cons number actor (Close name) (Begun answers) lines r e = refl
-settled-cons number actor (Delete key) (Begun answers) lines r e = refl
+settled-cons number actor (Stat path) (Begun heard) lines r e = refl
+settled-cons number actor (OpenRead name path) (Begun heard) lines r e = refl
+settled-cons number actor (Read name offset count) (Begun heard) lines r e = refl
+settled-cons number actor (Close name) (Begun heard) lines r e = refl
+settled-cons number actor (Delete key) (Begun heard) lines r e = refl
 settled-cons number actor request Replied lines r e = replies-past number (standing number actor request Replied) lines (due_awaits lines) (omega arith) (due-rise number lines r) ∙ ap (λ t. standing number actor request Replied ∷ t) e
 
 -- so answered, the lines are these
@@ -83,13 +83,13 @@ settled-is above (s ∷ lines) r = settled-cons s.line.number s.line.actor s.lin
 -- and no more awaits are due
 settled-due-cons : (number actor : ℕ) (request : Request) (phase : Phase) (lines : List Standing) → due_awaits (settled lines) ≡ [] → due_awaits (settled (standing number actor request phase ∷ lines)) ≡ []
 settled-due-cons number actor request Waiting lines e = refl
-settled-due-cons number actor (Put key content) (Begun answers) lines e = refl
-settled-due-cons number actor Await (Begun answers) lines e = e
-settled-due-cons number actor (Stat path) (Begun answers) lines e = refl
-settled-due-cons number actor (OpenRead name path) (Begun answers) lines e = refl
-settled-due-cons number actor (Read name offset count) (Begun answers) lines e = refl
-settled-due-cons number actor (Close name) (Begun answers) lines e = refl
-settled-due-cons number actor (Delete key) (Begun answers) lines e = refl
+settled-due-cons number actor (Put key content) (Begun heard) lines e = refl
+settled-due-cons number actor Await (Begun heard) lines e = e
+settled-due-cons number actor (Stat path) (Begun heard) lines e = refl
+settled-due-cons number actor (OpenRead name path) (Begun heard) lines e = refl
+settled-due-cons number actor (Read name offset count) (Begun heard) lines e = refl
+settled-due-cons number actor (Close name) (Begun heard) lines e = refl
+settled-due-cons number actor (Delete key) (Begun heard) lines e = refl
 settled-due-cons number actor request Replied lines e = e
 
 pub settled-due : (lines : List Standing) → due_awaits (settled lines) ≡ []
@@ -99,17 +99,17 @@ settled-due (s ∷ lines) = settled-due-cons s.line.number s.line.actor s.line.r
 -- an await wants no job, neither before its reply nor behind it
 settled-wanted-cons : (n number actor : ℕ) (request : Request) (phase : Phase) (lines : List Standing) → jobs_wanted (line_at n (settled lines)) ≡ jobs_wanted (line_at n lines) → jobs_wanted (line_at n (settled (standing number actor request phase ∷ lines))) ≡ jobs_wanted (line_at n (standing number actor request phase ∷ lines))
 settled-wanted-cons n number actor request Waiting lines e = refl
-settled-wanted-cons n number actor (Put key content) (Begun answers) lines e = refl
-settled-wanted-cons n number actor Await (Begun answers) lines e = go (number == n)
+settled-wanted-cons n number actor (Put key content) (Begun heard) lines e = refl
+settled-wanted-cons n number actor Await (Begun heard) lines e = go (number == n)
   where
-    go : (b : Bool) → jobs_wanted (cond b (Some (standing number actor Await Replied)) (line_at n (settled lines))) ≡ jobs_wanted (cond b (Some (standing number actor Await (Begun answers))) (line_at n lines))
+    go : (b : Bool) → jobs_wanted (cond b (Some (standing number actor Await Replied)) (line_at n (settled lines))) ≡ jobs_wanted (cond b (Some (standing number actor Await (Begun heard))) (line_at n lines))
     go true = refl
     go false = e
-settled-wanted-cons n number actor (Stat path) (Begun answers) lines e = refl
-settled-wanted-cons n number actor (OpenRead name path) (Begun answers) lines e = refl
-settled-wanted-cons n number actor (Read name offset count) (Begun answers) lines e = refl
-settled-wanted-cons n number actor (Close name) (Begun answers) lines e = refl
-settled-wanted-cons n number actor (Delete key) (Begun answers) lines e = refl
+settled-wanted-cons n number actor (Stat path) (Begun heard) lines e = refl
+settled-wanted-cons n number actor (OpenRead name path) (Begun heard) lines e = refl
+settled-wanted-cons n number actor (Read name offset count) (Begun heard) lines e = refl
+settled-wanted-cons n number actor (Close name) (Begun heard) lines e = refl
+settled-wanted-cons n number actor (Delete key) (Begun heard) lines e = refl
 settled-wanted-cons n number actor request Replied lines e = go (number == n)
   where
     go : (b : Bool) → jobs_wanted (cond b (Some (standing number actor request Replied)) (line_at n (settled lines))) ≡ jobs_wanted (cond b (Some (standing number actor request Replied)) (line_at n lines))

@@ -1,6 +1,7 @@
 -- The bytes that a read gives are those of the version that its handle opened.
 use Rattle.std.proofs.Common.{◌≡◌, ℕ, ◌+◌, List, [], ◌∷◌, ◌++◌, length, Option, Some, None, inl, inr, refl, sym, ap, ◌∙◌, subst}
 use Rattle.std.specs.List.{AllByRecursion}
+use Rattle.mp_rules.specs.declared.facts.Known.{Known}
 use Rattle.bucket_model.specs.declared.call.Call.{Call}
 use Rattle.bucket_model.specs.declared.call.Call.TheVariants as call
 use Rattle.bucket_model.specs.declared.answer.Answer.{Answer}
@@ -20,8 +21,11 @@ use Rattle.mount_model.specs.declared.event.Event.{Event}
 use Rattle.mount_model.specs.declared.event.Event.TheVariants.{Begin, Take, Done}
 use Rattle.mount_model.specs.declared.event.Ask.{Ask}
 use Rattle.mount_model.specs.declared.event.Answered.{Answered}
+use Rattle.mount_model.specs.declared.standing.Heard.{Heard}
 use Rattle.mount_model.specs.declared.standing.Phase.TheVariants.{Waiting, Begun}
 use Rattle.mount_model.specs.declared.standing.Standing.{Standing}
+use Rattle.mount_model.specs.declared.standing.Told.{Told}
+use Rattle.mount_model.specs.Heard.{nothing_heard, with_told, question_of, told_by}
 use Rattle.mount_model.specs.Step.{Step}
 use Rattle.mount_model.specs.Conversation.{Next, Asks, Replies, Opens, Gives, Waits, Range, range_in, range_next, read_next, next_of}
 use Rattle.mount_model.specs.Handles.{handle_of}
@@ -39,36 +43,45 @@ use Rattle.run_laws.proofs.Faithful.{faithful}
 
 -- what a read gives behind the answer to its call
 
-range-slice : (versions : List ObjectVersion) (version : Version) (o : Option Range) (before : List Brief) (called : Call) (said : Answer) (count : ℕ) → range_next version o before ≡ Asks called → range_next version o (before ++ brief_of said ∷ []) ≡ Gives count → IsSlice versions called said → IsRangeOf versions version o (bytes_in said)
-range-slice versions version None before called said count asks gives slice = absurd (cc)
-range-slice versions version (Some range) [] called (answer.Bytes bytes) count asks gives slice =
+first-slice : (versions : List ObjectVersion) (version : Version) (range : Range) (said : Answer) (count : ℕ) → range_next version (Some range) (brief_of said ∷ []) ≡ Gives count → IsSlice versions (call.Get version.key version.etag range.from range.to) said → IsRangeOf versions version (Some range) (bytes_in said)
+first-slice versions version range (answer.Bytes bytes) count gives slice = slice
+first-slice versions version range (answer.Found etag size) count gives slice = absurd (cc)
+first-slice versions version range answer.Missing count gives slice = absurd (cc)
+first-slice versions version range answer.Yes count gives slice = absurd (cc)
+first-slice versions version range answer.No count gives slice = absurd (cc)
+first-slice versions version range answer.Changed count gives slice = absurd (cc)
+first-slice versions version range answer.Gone count gives slice = absurd (cc)
+first-slice versions version range (answer.Made etag) count gives slice = absurd (cc)
+first-slice versions version range answer.Fault count gives slice = absurd (cc)
+first-slice versions version range answer.NoMemory count gives slice = absurd (cc)
+
+-- the answers behind one more, to this call
+abbrev answers_behind : List Known → List Brief → Call → Brief → List Brief
+answers_behind facts before called answer = (with_told (told_by (question_of called) answer) (record { facts = facts; answers = before })).answers
+
+range-slice : (versions : List ObjectVersion) (version : Version) (o : Option Range) (facts : List Known) (before : List Brief) (called : Call) (said : Answer) (count : ℕ) → range_next version o before ≡ Asks called → range_next version o (answers_behind facts before called (brief_of said)) ≡ Gives count → IsSlice versions called said → IsRangeOf versions version o (bytes_in said)
+range-slice versions version None facts before called said count asks gives slice = absurd (cc)
+range-slice versions version (Some range) facts [] called said count asks gives slice =
     let is : called ≡ call.Get version.key version.etag range.from range.to = cc in
-    subst (λ (c : Call). IsSlice versions c (answer.Bytes bytes)) is slice
-range-slice versions version (Some range) [] called (answer.Found etag size) count asks gives slice = absurd (cc)
-range-slice versions version (Some range) [] called answer.Missing count asks gives slice = absurd (cc)
-range-slice versions version (Some range) [] called answer.Yes count asks gives slice = absurd (cc)
-range-slice versions version (Some range) [] called answer.No count asks gives slice = absurd (cc)
-range-slice versions version (Some range) [] called answer.Changed count asks gives slice = absurd (cc)
-range-slice versions version (Some range) [] called answer.Gone count asks gives slice = absurd (cc)
-range-slice versions version (Some range) [] called (answer.Made etag) count asks gives slice = absurd (cc)
-range-slice versions version (Some range) [] called answer.Fault count asks gives slice = absurd (cc)
-range-slice versions version (Some range) [] called answer.NoMemory count asks gives slice = absurd (cc)
-range-slice versions version (Some range) (Found etag size ∷ before) called said count asks gives slice = absurd (cc)
-range-slice versions version (Some range) (Missing ∷ before) called said count asks gives slice = absurd (cc)
-range-slice versions version (Some range) (Yes ∷ before) called said count asks gives slice = absurd (cc)
-range-slice versions version (Some range) (No ∷ before) called said count asks gives slice = absurd (cc)
-range-slice versions version (Some range) (Bytes some ∷ before) called said count asks gives slice = absurd (cc)
-range-slice versions version (Some range) (Changed ∷ before) called said count asks gives slice = absurd (cc)
-range-slice versions version (Some range) (Gone ∷ before) called said count asks gives slice = absurd (cc)
-range-slice versions version (Some range) (Made etag ∷ before) called said count asks gives slice = absurd (cc)
-range-slice versions version (Some range) (Fault ∷ before) called said count asks gives slice = absurd (cc)
-range-slice versions version (Some range) (NoMemory ∷ before) called said count asks gives slice = absurd (cc)
+    first-slice versions version range said count
+    (subst (λ (c : Call). range_next version (Some range) (answers_behind facts [] c (brief_of said)) ≡ Gives count) is gives)
+    (subst (λ (c : Call). IsSlice versions c said) is slice)
+range-slice versions version (Some range) facts (Found etag size ∷ before) called said count asks gives slice = absurd (cc)
+range-slice versions version (Some range) facts (Missing ∷ before) called said count asks gives slice = absurd (cc)
+range-slice versions version (Some range) facts (Yes ∷ before) called said count asks gives slice = absurd (cc)
+range-slice versions version (Some range) facts (No ∷ before) called said count asks gives slice = absurd (cc)
+range-slice versions version (Some range) facts (Bytes some ∷ before) called said count asks gives slice = absurd (cc)
+range-slice versions version (Some range) facts (Changed ∷ before) called said count asks gives slice = absurd (cc)
+range-slice versions version (Some range) facts (Gone ∷ before) called said count asks gives slice = absurd (cc)
+range-slice versions version (Some range) facts (Made etag ∷ before) called said count asks gives slice = absurd (cc)
+range-slice versions version (Some range) facts (Fault ∷ before) called said count asks gives slice = absurd (cc)
+range-slice versions version (Some range) facts (NoMemory ∷ before) called said count asks gives slice = absurd (cc)
 
-read-slice : (versions : List ObjectVersion) (handle : Option Handle) (offset asked : ℕ) (before : List Brief) (called : Call) (said : Answer) (count : ℕ) → read_next handle offset asked before ≡ Asks called → read_next handle offset asked (before ++ brief_of said ∷ []) ≡ Gives count → IsSlice versions called said → IsReadOf versions handle offset asked (bytes_in said)
+read-slice : (versions : List ObjectVersion) (handle : Option Handle) (offset asked : ℕ) (before : Heard) (called : Call) (said : Answer) (count : ℕ) → read_next handle offset asked before.answers ≡ Asks called → read_next handle offset asked (with_told (told_by (question_of called) (brief_of said)) before).answers ≡ Gives count → IsSlice versions called said → IsReadOf versions handle offset asked (bytes_in said)
 read-slice versions None offset asked before called said count asks gives slice = absurd (cc)
-read-slice versions (Some handle) offset asked before called said count asks gives slice = range-slice versions handle.version (range_in offset asked handle.version.size) before called said count asks gives slice
+read-slice versions (Some handle) offset asked before called said count asks gives slice = range-slice versions handle.version (range_in offset asked handle.version.size) before.facts before.answers called said count asks gives slice
 
-request-slice : (versions : List ObjectVersion) (handle : Option Handle) (request : Request) (before : List Brief) (called : Call) (said : Answer) (count : ℕ) → IsRead request → next_of handle request before ≡ Asks called → next_of handle request (before ++ brief_of said ∷ []) ≡ Gives count → IsSlice versions called said → IsDataFor versions request handle (bytes_in said)
+request-slice : (versions : List ObjectVersion) (handle : Option Handle) (request : Request) (before : Heard) (called : Call) (said : Answer) (count : ℕ) → IsRead request → next_of handle request before ≡ Asks called → next_of handle request (with_told (told_by (question_of called) (brief_of said)) before) ≡ Gives count → IsSlice versions called said → IsDataFor versions request handle (bytes_in said)
 request-slice versions handle (Read name offset asked) before called said count read asks gives slice = read-slice versions handle offset asked before called said count asks gives slice
 request-slice versions handle (Put key content) before called said count read asks gives slice = absurd read
 request-slice versions handle Await before called said count read asks gives slice = absurd read
@@ -87,7 +100,7 @@ read-nothing : (versions : List ObjectVersion) (handle : Option Handle) (offset 
 read-nothing versions None offset asked count gives = absurd (cc)
 read-nothing versions (Some handle) offset asked count gives = range-nothing versions handle.version (range_in offset asked handle.version.size) count gives
 
-request-nothing : (versions : List ObjectVersion) (handle : Option Handle) (request : Request) (count : ℕ) → IsRead request → next_of handle request [] ≡ Gives count → IsDataFor versions request handle []
+request-nothing : (versions : List ObjectVersion) (handle : Option Handle) (request : Request) (count : ℕ) → IsRead request → next_of handle request nothing_heard ≡ Gives count → IsDataFor versions request handle []
 request-nothing versions handle (Read name offset asked) count read gives = read-nothing versions handle offset asked count gives
 request-nothing versions handle (Put key content) count read gives = absurd read
 request-nothing versions handle Await count read gives = absurd read
@@ -125,14 +138,14 @@ own-decide versions now step alive legal own =
     (all-append (IsReadReply versions now) legal.own dues own (all-more (IsAwaited lines) (IsReadReply versions now) (awaited-reply versions now lines) dues (due-here now step alive legal)))
 
 -- where the line whose turn it is may give these bytes alone
-turn-reads : (versions : List ObjectVersion) (now : ClientState) (step : Step) (wanted : List ℕ) → IsAlive now → IsLegalStep now step → (opened : IsOpened now step.event) → ((count : ℕ) → next_of (handle_of opened.line now.handles) opened.line.request opened.answers ≡ Gives count → IsDataFor versions opened.line.request (handle_of opened.line now.handles) wanted) → AllByRecursion (GivesOnly wanted) step.replies → AllByRecursion (IsReadReply versions now) step.replies
+turn-reads : (versions : List ObjectVersion) (now : ClientState) (step : Step) (wanted : List ℕ) → IsAlive now → IsLegalStep now step → (opened : IsOpened now step.event) → ((count : ℕ) → next_of (handle_of opened.line now.handles) opened.line.request opened.heard ≡ Gives count → IsDataFor versions opened.line.request (handle_of opened.line now.handles) wanted) → AllByRecursion (GivesOnly wanted) step.replies → AllByRecursion (IsReadReply versions now) step.replies
 turn-reads versions now step wanted alive legal opened gives only = own-decide versions now step alive legal (go next refl (subst (λ (t : Turn). TakesTurn (length now.jobs + 1) t step.asks legal.own) opened.turn legal.turn))
   where
     n : ℕ
     n = opened.n
 
     next : Next
-    next = next_of (handle_of opened.line now.handles) opened.line.request opened.answers
+    next = next_of (handle_of opened.line now.handles) opened.line.request opened.heard
 
     own_only : AllByRecursion (GivesOnly wanted) legal.own
     own_only = all-front (GivesOnly wanted) legal.own (due_awaits (with_replies (lines_at now.lines now.jobs step.event) legal.own)) (subst (AllByRecursion (GivesOnly wanted)) legal.replies only)
@@ -150,25 +163,25 @@ turn-reads versions now step wanted alive legal opened gives only = own-decide v
     go : (now_next : Next) → next ≡ now_next → TakesTurn (length now.jobs + 1) (TurnOf n opened.owner now_next) step.asks legal.own → AllByRecursion (IsReadReply versions now) legal.own
     go (Asks called) is (inl t) = by _ t.1 tt
     go (Asks called) is (inr t) = by _ t.1 (tt, tt)
-    go (Replies said) is t = by _ t.1 (plain-reply versions now n said (replies-plain (handle_of opened.line now.handles) opened.line.request opened.answers said is), tt)
+    go (Replies said) is t = by _ t.1 (plain-reply versions now n said (replies-plain (handle_of opened.line now.handles) opened.line.request opened.heard said is), tt)
     go (Opens version) is (inl t) = by _ t.1 (tt, tt)
     go (Opens version) is (inr t) = by _ t.1 (tt, tt)
     go (Gives count) is t = by _ t.2.1 (data_reply count t.0 is t.2.1, tt)
     go Waits is t = by _ t.1 tt
 
 -- how the line whose turn it is stands
-record StandsSo (line other : Line) (answers heard_now : List Brief) : Type 0 where
+record StandsSo (line other : Line) (first second : Heard) : Type 0 where
   same_line : line ≡ other
-  same_answers : answers ≡ heard_now
+  same_heard : first ≡ second
 
-stands-so : (line other : Line) (answers heard_now : List Brief) (o : Option Standing) → o ≡ Some (record { line = line; phase = Begun answers }) → o ≡ Some (record { line = other; phase = Begun heard_now }) → StandsSo line other answers heard_now
-stands-so line other answers heard_now o first second =
-    let one : Standing = record { line = line; phase = Begun answers } in
-    let two : Standing = record { line = other; phase = Begun heard_now } in
-    let both : Some one ≡ Some two = sym first ∙ second in
+stands-so : (line other : Line) (first second : Heard) (o : Option Standing) → o ≡ Some (record { line = line; phase = Begun first }) → o ≡ Some (record { line = other; phase = Begun second }) → StandsSo line other first second
+stands-so line other first second o one_is two_is =
+    let one : Standing = record { line = line; phase = Begun first } in
+    let two : Standing = record { line = other; phase = Begun second } in
+    let both : Some one ≡ Some two = sym one_is ∙ two_is in
     let same : one ≡ two = cc in
     let phases : one.phase ≡ two.phase = ap (λ (s : Standing). s.phase) same in
-    record { same_line = ap (λ (s : Standing). s.line) same; same_answers = cc }
+    record { same_line = ap (λ (s : Standing). s.line) same; same_heard = cc }
 
 -- each kind of step
 
@@ -181,7 +194,7 @@ done-at versions now number position said job drops asks replies alive faithful 
     opened : IsOpened now (Done number position (brief_of said))
     opened = done-opens now number position (brief_of said) alive legal.may_come
 
-    gives : (count : ℕ) → next_of (handle_of opened.line now.handles) opened.line.request opened.answers ≡ Gives count → IsDataFor versions opened.line.request (handle_of opened.line now.handles) (bytes_in said)
+    gives : (count : ℕ) → next_of (handle_of opened.line now.handles) opened.line.request opened.heard ≡ Gives count → IsDataFor versions opened.line.request (handle_of opened.line now.handles) (bytes_in said)
     gives count is =
         let may = legal.may_come in
         let both : Some may.job ≡ Some job = sym may.stands ∙ stands in
@@ -190,14 +203,15 @@ done-at versions now number position said job drops asks replies alive faithful 
         let due = owner-due now number may.job.line may.job alive may.stands refl (λ gone. absurd (cc)) in
         let numbers : Some may.job.line ≡ Some opened.n = sym (line-is (job_at number now.jobs) may.job may.stands) ∙ opened.of_line in
         let number_is : may.job.line ≡ opened.n = cc in
+        let told : Told = told_by (question_of may.job.call) (brief_of said) in
         let lines : List Standing = hears (job_at number now.jobs) (brief_of said) now.lines in
-        let here : line_at may.job.line lines ≡ Some (record { line = due.line; phase = Begun (due.answers ++ brief_of said ∷ []) }) =
-        ap (line_at may.job.line) (hears-is (job_at number now.jobs) may.job (brief_of said) now.lines may.stands) ∙ line_at-same may.job.line (heard (brief_of said)) now.lines (record { line = due.line; phase = Begun due.answers }) due.stands in
-        let so = stands-so opened.line due.line opened.answers (due.answers ++ brief_of said ∷ []) (line_at opened.n lines) opened.now.stands (ap (λ (k : ℕ). line_at k lines) (sym number_is) ∙ here) in
-        let makes : next_of (handle_of due.line now.handles) due.line.request due.answers ≡ Asks may.job.call = sym (next_at-begun now.handles may.job.line due.line due.answers now.lines due.stands) ∙ faithful.makes number may.job may.stands (λ gone. absurd (cc)) in
-        let asked : next_of (handle_of opened.line now.handles) opened.line.request due.answers ≡ Asks job.call = ap (λ (l : Line). next_of (handle_of l now.handles) l.request due.answers) so.same_line ∙ makes ∙ ap (λ (j : Job). Asks j.call) same_job in
-        let given : next_of (handle_of opened.line now.handles) opened.line.request (due.answers ++ brief_of said ∷ []) ≡ Gives count = ap (next_of (handle_of opened.line now.handles) opened.line.request) (sym so.same_answers) ∙ is in
-        request-slice versions (handle_of opened.line now.handles) opened.line.request due.answers job.call said count (gives-read (handle_of opened.line now.handles) opened.line.request opened.answers count is) asked given slice
+        let here : line_at may.job.line lines ≡ Some (record { line = due.line; phase = Begun (with_told told due.heard) }) =
+        ap (line_at may.job.line) (hears-is (job_at number now.jobs) may.job (brief_of said) now.lines may.stands) ∙ line_at-same may.job.line (heard told) now.lines (record { line = due.line; phase = Begun due.heard }) due.stands in
+        let so = stands-so opened.line due.line opened.heard (with_told told due.heard) (line_at opened.n lines) opened.now.stands (ap (λ (k : ℕ). line_at k lines) (sym number_is) ∙ here) in
+        let makes : next_of (handle_of due.line now.handles) due.line.request due.heard ≡ Asks may.job.call = sym (next_at-begun now.handles may.job.line due.line due.heard now.lines due.stands) ∙ faithful.makes number may.job may.stands (λ gone. absurd (cc)) in
+        let asked : next_of (handle_of opened.line now.handles) opened.line.request due.heard ≡ Asks job.call = ap (λ (l : Line). next_of (handle_of l now.handles) l.request due.heard) so.same_line ∙ makes ∙ ap (λ (j : Job). Asks j.call) same_job in
+        let given : next_of (handle_of opened.line now.handles) opened.line.request (with_told (told_by (question_of job.call) (brief_of said)) due.heard) ≡ Gives count = ap (λ (j : Job). next_of (handle_of opened.line now.handles) opened.line.request (with_told (told_by (question_of j.call) (brief_of said)) due.heard)) (sym same_job) ∙ ap (next_of (handle_of opened.line now.handles) opened.line.request) (sym so.same_heard) ∙ is in
+        request-slice versions (handle_of opened.line now.handles) opened.line.request due.heard job.call said count (gives-read (handle_of opened.line now.handles) opened.line.request opened.heard count is) asked given slice
 
 begun-at : (versions : List ObjectVersion) (now : ClientState) (line time : ℕ) (drops : List ℕ) (asks : List Ask) (replies : List Answered) → IsAlive now → IsLegalStep now (record { event = Begin line time; drops = drops; asks = asks; replies = replies }) → AllByRecursion (GivesOnly []) replies → AllByRecursion (IsReadReply versions now) replies
 begun-at versions now line time drops asks replies alive legal only = turn-reads versions now step [] alive legal opened gives only
@@ -208,16 +222,16 @@ begun-at versions now line time drops asks replies alive legal only = turn-reads
     opened : IsOpened now (Begin line time)
     opened = begin-opens now line time alive legal.may_come.1
 
-    gives : (count : ℕ) → next_of (handle_of opened.line now.handles) opened.line.request opened.answers ≡ Gives count → IsDataFor versions opened.line.request (handle_of opened.line now.handles) []
+    gives : (count : ℕ) → next_of (handle_of opened.line now.handles) opened.line.request opened.heard ≡ Gives count → IsDataFor versions opened.line.request (handle_of opened.line now.handles) []
     gives count is =
         let found = startable-found 0 line [] now.lines (Rises-lines 0 now.lines alive.rising) legal.may_come.1 in
         let numbers : Some line ≡ Some opened.n = opened.of_line in
         let number_is : line ≡ opened.n = cc in
-        let lines : List Standing = change_line line (λ phase. Begun []) now.lines in
-        let here : line_at line lines ≡ Some (record { line = found.line; phase = Begun [] }) = line_at-same line (λ phase. Begun []) now.lines (record { line = found.line; phase = Waiting }) found.stands in
-        let so = stands-so opened.line found.line opened.answers [] (line_at opened.n lines) opened.now.stands (ap (λ (k : ℕ). line_at k lines) (sym number_is) ∙ here) in
-        let given : next_of (handle_of opened.line now.handles) opened.line.request [] ≡ Gives count = ap (next_of (handle_of opened.line now.handles) opened.line.request) (sym so.same_answers) ∙ is in
-        request-nothing versions (handle_of opened.line now.handles) opened.line.request count (gives-read (handle_of opened.line now.handles) opened.line.request opened.answers count is) given
+        let lines : List Standing = change_line line (λ phase. Begun nothing_heard) now.lines in
+        let here : line_at line lines ≡ Some (record { line = found.line; phase = Begun nothing_heard }) = line_at-same line (λ phase. Begun nothing_heard) now.lines (record { line = found.line; phase = Waiting }) found.stands in
+        let so = stands-so opened.line found.line opened.heard nothing_heard (line_at opened.n lines) opened.now.stands (ap (λ (k : ℕ). line_at k lines) (sym number_is) ∙ here) in
+        let given : next_of (handle_of opened.line now.handles) opened.line.request nothing_heard ≡ Gives count = ap (next_of (handle_of opened.line now.handles) opened.line.request) (sym so.same_heard) ∙ is in
+        request-nothing versions (handle_of opened.line now.handles) opened.line.request count (gives-read (handle_of opened.line now.handles) opened.line.request opened.heard count is) given
 
 taken-at : (versions : List ObjectVersion) (now : ClientState) (number time from : ℕ) (drops : List ℕ) (asks : List Ask) (replies : List Answered) → IsAlive now → IsLegalStep now (record { event = Take number time from; drops = drops; asks = asks; replies = replies }) → AllByRecursion (IsReadReply versions now) replies
 taken-at versions now number time from drops asks replies alive legal = own-decide versions now (record { event = Take number time from; drops = drops; asks = asks; replies = replies }) alive legal (subst (AllByRecursion (IsReadReply versions now)) (sym legal.turn.1) tt)

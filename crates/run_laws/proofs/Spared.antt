@@ -1,12 +1,12 @@
 -- What a step leaves of the lines that it doesn't answer: they stand as before, with their handles.
 use Rattle.std.proofs.Common.{◌≡◌, ◌≢◌, ℕ, List, [], ◌∷◌, ◌++◌, map, find, fold, cond, Bool, true, false, ◌==◌, Option, Some, None, option_map, refl, sym, ap, ◌∙◌, subst}
 use Rattle.std.specs.List.{AllByRecursion}
-use Rattle.bucket_model.specs.declared.answer.Brief.{Brief}
 use Rattle.mount_model.specs.declared.request.Request.{Request}
 use Rattle.mount_model.specs.declared.request.Request.TheVariants.{Put, Await, Stat, OpenRead, Read, Close, Delete}
 use Rattle.mount_model.specs.declared.request.Reply.TheVariants as reply
 use Rattle.mount_model.specs.declared.request.Line.{Line}
 use Rattle.mount_model.specs.declared.event.Answered.{Answered}
+use Rattle.mount_model.specs.declared.standing.Heard.{Heard}
 use Rattle.mount_model.specs.declared.standing.Phase.{Phase}
 use Rattle.mount_model.specs.declared.standing.Phase.TheVariants.{Waiting, Begun, Replied}
 use Rattle.mount_model.specs.declared.standing.Standing.{Standing}
@@ -44,15 +44,15 @@ awaited-later above s lines rises r is = record { standing = is.standing; stands
 
 due-awaited-cons : (above number actor : ℕ) (request : Request) (phase : Phase) (lines : List Standing) → Rises number_of above (standing number actor request phase ∷ lines) → AllByRecursion (IsAwaited lines) (due_awaits lines) → AllByRecursion (IsAwaited (standing number actor request phase ∷ lines)) (due_awaits (standing number actor request phase ∷ lines))
 due-awaited-cons above number actor request Waiting lines rises all = tt
-due-awaited-cons above number actor (Put key content) (Begun answers) lines rises all = tt
-due-awaited-cons above number actor Await (Begun answers) lines rises all =
-    let first : Standing = standing number actor Await (Begun answers) in
+due-awaited-cons above number actor (Put key content) (Begun heard) lines rises all = tt
+due-awaited-cons above number actor Await (Begun heard) lines rises all =
+    let first : Standing = standing number actor Await (Begun heard) in
     (record { standing = first; stands = item_at-first number_of first lines; awaits = refl; said = refl }, all-more (IsAwaited lines) (IsAwaited (first ∷ lines)) (awaited-later above first lines rises) (due_awaits lines) all)
-due-awaited-cons above number actor (Stat path) (Begun answers) lines rises all = tt
-due-awaited-cons above number actor (OpenRead name path) (Begun answers) lines rises all = tt
-due-awaited-cons above number actor (Read name offset count) (Begun answers) lines rises all = tt
-due-awaited-cons above number actor (Close name) (Begun answers) lines rises all = tt
-due-awaited-cons above number actor (Delete key) (Begun answers) lines rises all = tt
+due-awaited-cons above number actor (Stat path) (Begun heard) lines rises all = tt
+due-awaited-cons above number actor (OpenRead name path) (Begun heard) lines rises all = tt
+due-awaited-cons above number actor (Read name offset count) (Begun heard) lines rises all = tt
+due-awaited-cons above number actor (Close name) (Begun heard) lines rises all = tt
+due-awaited-cons above number actor (Delete key) (Begun heard) lines rises all = tt
 due-awaited-cons above number actor request Replied lines rises all =
     let first : Standing = standing number actor request Replied in
     all-more (IsAwaited lines) (IsAwaited (first ∷ lines)) (awaited-later above first lines rises) (due_awaits lines) all
@@ -108,21 +108,21 @@ due-here state step alive legal =
     let closed = closed-event state step.event step.asks legal.own alive legal.may_come legal.turn in
     all-more (IsAwaited behind) (IsAwaited lines) (awaited-same behind lines (lines-replies lines legal.own)) (due_awaits behind) (due-awaited 0 behind (Rises-lines 0 behind closed.rising))
 
-step-spares : (state : ClientState) (step : Step) (m : ℕ) (line : Line) (answers : List Brief) → IsAlive state → (legal : IsLegalStep state step) → line_at m (lines_at state.lines state.jobs step.event) ≡ Some (record { line = line; phase = Begun answers }) → line.request ≢ Await → AllByRecursion (Spares (lines_at state.lines state.jobs step.event) m line.actor) legal.own → AllByRecursion (Spares (lines_at state.lines state.jobs step.event) m line.actor) step.replies
-step-spares state step m line answers alive legal stands other own =
+step-spares : (state : ClientState) (step : Step) (m : ℕ) (line : Line) (heard : Heard) → IsAlive state → (legal : IsLegalStep state step) → line_at m (lines_at state.lines state.jobs step.event) ≡ Some (record { line = line; phase = Begun heard }) → line.request ≢ Await → AllByRecursion (Spares (lines_at state.lines state.jobs step.event) m line.actor) legal.own → AllByRecursion (Spares (lines_at state.lines state.jobs step.event) m line.actor) step.replies
+step-spares state step m line heard alive legal stands other own =
     let lines : List Standing = lines_at state.lines state.jobs step.event in
     let dues : List Answered = due_awaits (with_replies lines legal.own) in
     let not_here : (s : Standing) → line_at m lines ≡ Some s → s.line.request ≢ Await = λ s is awaits.
-    let same : record { line = line; phase = Begun answers } ≡ s = cc in
+    let same : record { line = line; phase = Begun heard } ≡ s = cc in
     other (ap (λ (t : Standing). t.line.request) same ∙ awaits) in
     subst (AllByRecursion (Spares lines m line.actor)) (sym legal.replies)
     (all-append (Spares lines m line.actor) legal.own dues own (all-more (IsAwaited lines) (Spares lines m line.actor) (awaited-spares lines m line.actor not_here) dues (due-here state step alive legal)))
 
 -- a line that has begun and is spared does next behind the step what it did before
-pub left-next : (state : ClientState) (step : Step) (m : ℕ) (line : Line) (answers : List Brief) → IsAlive state → (legal : IsLegalStep state step) → line_at m (lines_at state.lines state.jobs step.event) ≡ Some (record { line = line; phase = Begun answers }) → line.request ≢ Await → AllByRecursion (Spares (lines_at state.lines state.jobs step.event) m line.actor) legal.own → next_at (after state step).handles m (after state step).lines ≡ next_of (handle_of line state.handles) line.request answers
-left-next state step m line answers alive legal stands other own =
+pub left-next : (state : ClientState) (step : Step) (m : ℕ) (line : Line) (heard : Heard) → IsAlive state → (legal : IsLegalStep state step) → line_at m (lines_at state.lines state.jobs step.event) ≡ Some (record { line = line; phase = Begun heard }) → line.request ≢ Await → AllByRecursion (Spares (lines_at state.lines state.jobs step.event) m line.actor) legal.own → next_at (after state step).handles m (after state step).lines ≡ next_of (handle_of line state.handles) line.request heard
+left-next state step m line heard alive legal stands other own =
     let lines : List Standing = lines_at state.lines state.jobs step.event in
-    let all = step-spares state step m line answers alive legal stands other own in
-    let stays : line_at m (with_replies lines step.replies) ≡ Some (record { line = line; phase = Begun answers }) = spared-line lines m line.actor step.replies all lines ∙ stands in
+    let all = step-spares state step m line heard alive legal stands other own in
+    let stays : line_at m (with_replies lines step.replies) ≡ Some (record { line = line; phase = Begun heard }) = spared-line lines m line.actor step.replies all lines ∙ stands in
     let handle : handle_of line (handles_after state.handles lines step.replies) ≡ handle_of line state.handles = spared-handles state.handles lines m line.actor step.replies all state.handles (name_in line.request) in
-    next_at-begun (handles_after state.handles lines step.replies) m line answers (with_replies lines step.replies) stays ∙ ap (λ h. next_of h line.request answers) handle
+    next_at-begun (handles_after state.handles lines step.replies) m line heard (with_replies lines step.replies) stays ∙ ap (λ h. next_of h line.request heard) handle

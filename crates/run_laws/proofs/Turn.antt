@@ -2,12 +2,12 @@
 use Rattle.std.proofs.Common.{◌≡◌, ℕ, ◌+◌, ◌≤◌, List, [], ◌∷◌, ◌++◌, map, length, Bool, true, false, ◌==◌, Option, Some, inl, inr, refl, sym, ap, ◌∙◌, subst, subst₂, arith, append-nil, eqb-true, eq-eqb, ne_eqb}
 use Rattle.std.proofs.lemmas.Bool.{eqb-false}
 use Rattle.bucket_model.specs.declared.call.Call.{Call}
-use Rattle.bucket_model.specs.declared.answer.Brief.{Brief}
 use Rattle.mount_model.specs.declared.handle.Handle.{Handle}
 use Rattle.mount_model.specs.declared.request.Line.{Line}
 use Rattle.mount_model.specs.declared.event.Owner.{Owner}
 use Rattle.mount_model.specs.declared.event.Ask.{Ask}
 use Rattle.mount_model.specs.declared.event.Answered.{Answered}
+use Rattle.mount_model.specs.declared.standing.Heard.{Heard}
 use Rattle.mount_model.specs.declared.standing.Phase.TheVariants.{Begun, Replied}
 use Rattle.mount_model.specs.declared.standing.Standing.{Standing}
 use Rattle.mount_model.specs.State.{Job, Ready, line_at, change_line, with_replies, job_of}
@@ -24,12 +24,12 @@ use Rattle.run_laws.specs.Work.{line_work, job_work}
 use Rattle.run_laws.proofs.Work.{asked_work, replied-work, settled-work}
 use Rattle.run_laws.proofs.Conversation.{only_await_waits, asks-one}
 
--- it is the turn of this line, which has these answers: all is served but it
-pub record IsOpen (n : ℕ) (line : Line) (answers : List Brief) (lines : List Standing) (jobs : List Job) : Type 0 where
+-- it is the turn of this line, which has heard this: all is served but it
+pub record IsOpen (n : ℕ) (line : Line) (heard : Heard) (lines : List Standing) (jobs : List Job) : Type 0 where
   pub rising : AreRising 0 (map line_in lines)
   pub numbered : AreNumbered 1 jobs
   pub orderly : AreOrderly [] lines
-  pub stands : line_at n lines ≡ Some (record { line = line; phase = Begun answers })
+  pub stands : line_at n lines ≡ Some (record { line = line; phase = Begun heard })
   pub none : live_jobs n jobs ≡ 0
   pub balanced : (m : ℕ) → (m ≡ n → ⊥) → live_jobs m jobs ≡ jobs_wanted (line_at m lines)
 
@@ -66,8 +66,8 @@ other-job n m number call jobs apart =
     let own : if_line m n ≡ 0 = rw other refl in
     omega arith
 
-pub close-asks : (n number : ℕ) (line : Line) (answers : List Brief) (lines : List Standing) (jobs : List Job) (call : Call) → IsOpen n line answers lines jobs → jobs_at_once line.request ≡ 1 → number ≡ length jobs + 1 → IsClosed lines (jobs ++ record { number = number; line = n; call = call; phase = Ready } ∷ [])
-close-asks n number line answers lines jobs call opened wants is = record {
+pub close-asks : (n number : ℕ) (line : Line) (heard : Heard) (lines : List Standing) (jobs : List Job) (call : Call) → IsOpen n line heard lines jobs → jobs_at_once line.request ≡ 1 → number ≡ length jobs + 1 → IsClosed lines (jobs ++ record { number = number; line = n; call = call; phase = Ready } ∷ [])
+close-asks n number line heard lines jobs call opened wants is = record {
   rising = opened.rising;
   numbered = numbered-push 1 jobs (record { number = number; line = n; call = call; phase = Ready }) (omega arith) opened.numbered;
   orderly = opened.orderly;
@@ -76,38 +76,38 @@ close-asks n number line answers lines jobs call opened wants is = record {
       (λ m apart. other-job n m number call jobs apart ∙ opened.balanced m apart);
 }
 
-pub close-reply : (n : ℕ) (line : Line) (answers : List Brief) (lines : List Standing) (jobs : List Job) → IsOpen n line answers lines jobs → IsClosed (change_line n (λ phase. Replied) lines) jobs
-close-reply n line answers lines jobs opened = record {
+pub close-reply : (n : ℕ) (line : Line) (heard : Heard) (lines : List Standing) (jobs : List Job) → IsOpen n line heard lines jobs → IsClosed (change_line n (λ phase. Replied) lines) jobs
+close-reply n line heard lines jobs opened = record {
   rising = rw (lines-change n (λ phase. Replied) lines) opened.rising;
   numbered = opened.numbered;
-  orderly = orderly-replied 0 n [] lines (record { line = line; phase = Begun answers }) answers (Rises-lines 0 lines opened.rising) opened.stands refl opened.orderly;
+  orderly = orderly-replied 0 n [] lines (record { line = line; phase = Begun heard }) heard (Rises-lines 0 lines opened.rising) opened.stands refl opened.orderly;
   balanced = by_number n (λ m. live_jobs m jobs ≡ jobs_wanted (line_at m (change_line n (λ phase. Replied) lines)))
-      (opened.none ∙ sym (ap jobs_wanted (line_at-same n (λ phase. Replied) lines (record { line = line; phase = Begun answers }) opened.stands)))
+      (opened.none ∙ sym (ap jobs_wanted (line_at-same n (λ phase. Replied) lines (record { line = line; phase = Begun heard }) opened.stands)))
       (λ m apart. opened.balanced m apart ∙ sym (ap jobs_wanted (line_at-other n m (λ phase. Replied) lines apart)));
 }
 
-pub close-wait : (n : ℕ) (line : Line) (answers : List Brief) (lines : List Standing) (jobs : List Job) → IsOpen n line answers lines jobs → jobs_at_once line.request ≡ 0 → IsClosed lines jobs
-close-wait n line answers lines jobs opened waits = record {
+pub close-wait : (n : ℕ) (line : Line) (heard : Heard) (lines : List Standing) (jobs : List Job) → IsOpen n line heard lines jobs → jobs_at_once line.request ≡ 0 → IsClosed lines jobs
+close-wait n line heard lines jobs opened waits = record {
   rising = opened.rising;
   numbered = opened.numbered;
   orderly = opened.orderly;
   balanced = by_number n (λ m. live_jobs m jobs ≡ jobs_wanted (line_at m lines)) (opened.none ∙ sym (ap jobs_wanted opened.stands ∙ waits)) opened.balanced;
 }
 
-pub close-turn : (n count : ℕ) (owner : Owner) (handle : Option Handle) (line : Line) (answers : List Brief) (old lines : List Standing) (jobs : List Job) (asks : List Ask) (own : List Answered) → IsOpen n line answers lines jobs → count ≡ length jobs → TakesTurn (count + 1) (TurnOf n owner (next_of handle line.request answers)) asks own → IsClosed (with_replies lines own) (jobs ++ map (job_of old n) asks)
-close-turn n count owner handle line answers old lines jobs asks own opened is turn = go (next_of handle line.request answers) refl turn
+pub close-turn : (n count : ℕ) (owner : Owner) (handle : Option Handle) (line : Line) (heard : Heard) (old lines : List Standing) (jobs : List Job) (asks : List Ask) (own : List Answered) → IsOpen n line heard lines jobs → count ≡ length jobs → TakesTurn (count + 1) (TurnOf n owner (next_of handle line.request heard)) asks own → IsClosed (with_replies lines own) (jobs ++ map (job_of old n) asks)
+close-turn n count owner handle line heard old lines jobs asks own opened is turn = go (next_of handle line.request heard) refl turn
   where
     closed_by : (asked : List Ask) (replied : List Answered) → asks ≡ asked → own ≡ replied → IsClosed (with_replies lines replied) (jobs ++ map (job_of old n) asked) → IsClosed (with_replies lines own) (jobs ++ map (job_of old n) asks)
     closed_by asked replied e f closed = subst₂ (λ (x : List Ask) (y : List Answered). IsClosed (with_replies lines y) (jobs ++ map (job_of old n) x)) (sym e) (sym f) closed
 
-    go : (next : Next) → next_of handle line.request answers ≡ next → TakesTurn (count + 1) (TurnOf n owner next) asks own → IsClosed (with_replies lines own) (jobs ++ map (job_of old n) asks)
-    go (Asks called) next (inl t) = closed_by _ _ t.0 t.1 (close-asks n (count + 1) line answers lines jobs _ opened (asks-one handle line.request answers called next) (omega arith))
-    go (Asks called) next (inr t) = closed_by _ _ t.0 t.1 (rw append-nil (close-reply n line answers lines jobs opened))
-    go (Replies said) next t = closed_by _ _ t.0 t.1 (rw append-nil (close-reply n line answers lines jobs opened))
-    go (Opens version) next (inl t) = closed_by _ _ t.0 t.1 (rw append-nil (close-reply n line answers lines jobs opened))
-    go (Opens version) next (inr t) = closed_by _ _ t.0 t.1 (rw append-nil (close-reply n line answers lines jobs opened))
-    go (Gives count) next t = closed_by _ _ t.2.0 t.2.1 (rw append-nil (close-reply n line answers lines jobs opened))
-    go Waits next t = closed_by _ _ t.0 t.1 (rw append-nil (close-wait n line answers lines jobs opened (only_await_waits handle line.request answers next)))
+    go : (next : Next) → next_of handle line.request heard ≡ next → TakesTurn (count + 1) (TurnOf n owner next) asks own → IsClosed (with_replies lines own) (jobs ++ map (job_of old n) asks)
+    go (Asks called) next (inl t) = closed_by _ _ t.0 t.1 (close-asks n (count + 1) line heard lines jobs _ opened (asks-one handle line.request heard called next) (omega arith))
+    go (Asks called) next (inr t) = closed_by _ _ t.0 t.1 (rw append-nil (close-reply n line heard lines jobs opened))
+    go (Replies said) next t = closed_by _ _ t.0 t.1 (rw append-nil (close-reply n line heard lines jobs opened))
+    go (Opens version) next (inl t) = closed_by _ _ t.0 t.1 (rw append-nil (close-reply n line heard lines jobs opened))
+    go (Opens version) next (inr t) = closed_by _ _ t.0 t.1 (rw append-nil (close-reply n line heard lines jobs opened))
+    go (Gives count) next t = closed_by _ _ t.2.0 t.2.1 (rw append-nil (close-reply n line heard lines jobs opened))
+    go Waits next t = closed_by _ _ t.0 t.1 (rw append-nil (close-wait n line heard lines jobs opened (only_await_waits handle line.request heard next)))
 
 -- and the awaits that are due have their replies
 pub settle : (time : ℕ) (lines : List Standing) (jobs : List Job) (positions : List ℕ) (handles : List Opened) → IsClosed lines jobs → IsAlive (record { time = time; lines = with_replies lines (due_awaits lines); jobs = jobs; positions = positions; handles = handles })
@@ -123,14 +123,14 @@ settle time lines jobs positions handles closed =
 
 -- how much is left behind a turn
 
-pub turn-work : (n count : ℕ) (owner : Owner) (handle : Option Handle) (line : Line) (answers : List Brief) (old lines : List Standing) (jobs : List Job) (asks : List Ask) (own : List Answered) → IsOpen n line answers lines jobs → TakesTurn count (TurnOf n owner (next_of handle line.request answers)) asks own → total line_work (with_replies lines own) + total job_work (jobs ++ map (job_of old n) asks) ≤ total line_work lines + total job_work jobs + asked_work (next_of handle line.request answers)
-turn-work n count owner handle line answers old lines jobs asks own opened turn = go (next_of handle line.request answers) turn
+pub turn-work : (n count : ℕ) (owner : Owner) (handle : Option Handle) (line : Line) (heard : Heard) (old lines : List Standing) (jobs : List Job) (asks : List Ask) (own : List Answered) → IsOpen n line heard lines jobs → TakesTurn count (TurnOf n owner (next_of handle line.request heard)) asks own → total line_work (with_replies lines own) + total job_work (jobs ++ map (job_of old n) asks) ≤ total line_work lines + total job_work jobs + asked_work (next_of handle line.request heard)
+turn-work n count owner handle line heard old lines jobs asks own opened turn = go (next_of handle line.request heard) turn
   where
     left_by : (asked : List Ask) (replied : List Answered) (left : ℕ) → asks ≡ asked → own ≡ replied → total line_work (with_replies lines replied) + total job_work (jobs ++ map (job_of old n) asked) ≤ left → total line_work (with_replies lines own) + total job_work (jobs ++ map (job_of old n) asks) ≤ left
     left_by asked replied left e f h = subst₂ (λ (x : List Ask) (y : List Answered). total line_work (with_replies lines y) + total job_work (jobs ++ map (job_of old n) x) ≤ left) (sym e) (sym f) h
 
     by_reply : total line_work (change_line n (λ phase. Replied) lines) + total job_work (jobs ++ []) ≤ total line_work lines + total job_work jobs
-    by_reply = let less = replied-work 0 n (record { line = line; phase = Begun answers }) lines (Rises-lines 0 lines opened.rising) opened.stands in rw append-nil (omega arith)
+    by_reply = let less = replied-work 0 n (record { line = line; phase = Begun heard }) lines (Rises-lines 0 lines opened.rising) opened.stands in rw append-nil (omega arith)
 
     go : (next : Next) → TakesTurn count (TurnOf n owner next) asks own → total line_work (with_replies lines own) + total job_work (jobs ++ map (job_of old n) asks) ≤ total line_work lines + total job_work jobs + asked_work next
     go (Asks called) (inl t) = left_by (record { job = count; owner = owner; call = asked_of called } ∷ []) [] _ t.0 t.1 (let sum = total-append job_work jobs (map (job_of old n) (record { job = count; owner = owner; call = asked_of called } ∷ [])) in omega arith)

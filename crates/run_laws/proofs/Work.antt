@@ -1,13 +1,17 @@
 -- What each part of a step does to the work that is left.
-use Rattle.std.proofs.Common.{◌≡◌, ℕ, ◌+◌, ◌*◌, ◌<◌, ◌≤◌, List, [], ◌∷◌, ◌++◌, Option, Some, refl, ap, arith}
+use Rattle.std.proofs.Common.{◌≡◌, ℕ, ◌+◌, ◌*◌, ◌<◌, ◌≤◌, List, [], ◌∷◌, Option, Some, ap, arith}
+use Rattle.bucket_model.specs.declared.call.Call.{Call}
 use Rattle.bucket_model.specs.declared.answer.Brief.{Brief}
 use Rattle.mount_model.specs.declared.handle.Handle.{Handle}
 use Rattle.mount_model.specs.declared.request.Request.{Request}
 use Rattle.mount_model.specs.declared.request.Request.TheVariants.{Put, Await, Stat, OpenRead, Read, Close, Delete}
 use Rattle.mount_model.specs.declared.request.Line.{Line}
+use Rattle.mount_model.specs.declared.standing.Heard.{Heard}
 use Rattle.mount_model.specs.declared.standing.Phase.{Phase}
 use Rattle.mount_model.specs.declared.standing.Phase.TheVariants.{Waiting, Begun, Replied}
 use Rattle.mount_model.specs.declared.standing.Standing.{Standing}
+use Rattle.mount_model.specs.declared.standing.Told.{Told}
+use Rattle.mount_model.specs.Heard.{nothing_heard, with_told, question_of, told_by}
 use Rattle.mount_model.specs.State.{Job, Ready, Out, Gone, line_at, job_at, change_line, change_job, heard}
 use Rattle.mount_model.specs.Conversation.{Next, Asks, Replies, Opens, Gives, Waits, next_of}
 use Rattle.run_laws.specs.Alive.{total}
@@ -16,7 +20,7 @@ use Rattle.run_laws.proofs.Keyed.{Rises, total-change}
 use Rattle.run_laws.proofs.Lines.{number_of, changed}
 use Rattle.run_laws.proofs.Settled.{standing, settled}
 use Rattle.run_laws.proofs.Jobs.{job_number, in_phase}
-use Rattle.run_laws.proofs.Conversation.{asks-left, left-falls}
+use Rattle.run_laws.proofs.Conversation.{calls_left_fall}
 
 -- what a new job adds, where a call is asked
 abbrev pub asked_work : Next → ℕ
@@ -34,24 +38,24 @@ asked-most (Gives count) = omega arith
 asked-most Waits = omega arith
 
 -- a line that begins
-pub begin-work : (above n : ℕ) (handle : Option Handle) (line : Line) (lines : List Standing) → Rises number_of above lines → line_at n lines ≡ Some (record { line = line; phase = Waiting }) → total line_work (change_line n (λ phase. Begun []) lines) + asked_work (next_of handle line.request []) < total line_work lines
+pub begin-work : (above n : ℕ) (handle : Option Handle) (line : Line) (lines : List Standing) → Rises number_of above lines → line_at n lines ≡ Some (record { line = line; phase = Waiting }) → total line_work (change_line n (λ phase. Begun nothing_heard) lines) + asked_work (next_of handle line.request nothing_heard) < total line_work lines
 begin-work above n handle line lines r stands =
-    let moved = total-change number_of line_work (changed (λ phase. Begun [])) above n lines (record { line = line; phase = Waiting }) r stands in
-    let most = asked-most (next_of handle line.request []) in
+    let moved = total-change number_of line_work (changed (λ phase. Begun nothing_heard)) above n lines (record { line = line; phase = Waiting }) r stands in
+    let most = asked-most (next_of handle line.request nothing_heard) in
     omega arith
 
--- an answer leaves one call less, or none is asked
-answer-work : (handle : Option Handle) (request : Request) (answers : List Brief) (answer : Brief) (next : Next) → next_of handle request (answers ++ answer ∷ []) ≡ next → 2 * calls_left request (answers ++ answer ∷ []) + asked_work next ≤ 2 * calls_left request answers
-answer-work handle request answers answer (Asks called) is = let some = asks-left handle request (answers ++ answer ∷ []) called is in let falls = left-falls request answer answers in omega arith
-answer-work handle request answers answer (Replies said) is = let falls = left-falls request answer answers in omega arith
-answer-work handle request answers answer (Opens version) is = let falls = left-falls request answer answers in omega arith
-answer-work handle request answers answer (Gives count) is = let falls = left-falls request answer answers in omega arith
-answer-work handle request answers answer Waits is = let falls = left-falls request answer answers in omega arith
+-- an answer to the call that was asked leaves one call less
+answer-work : (handle : Option Handle) (request : Request) (before : Heard) (called : Call) (answer : Brief) → next_of handle request before ≡ Asks called → 2 * calls_left request (with_told (told_by (question_of called) answer) before) + asked_work (next_of handle request (with_told (told_by (question_of called) answer) before)) ≤ 2 * calls_left request before
+answer-work handle request before called answer asked =
+    let falls = calls_left_fall handle request before called answer asked in
+    let most = asked-most (next_of handle request (with_told (told_by (question_of called) answer) before)) in
+    omega arith
 
-pub heard-work : (above n : ℕ) (handle : Option Handle) (line : Line) (answers : List Brief) (answer : Brief) (lines : List Standing) → Rises number_of above lines → line_at n lines ≡ Some (record { line = line; phase = Begun answers }) → total line_work (change_line n (heard answer) lines) + asked_work (next_of handle line.request (answers ++ answer ∷ [])) ≤ total line_work lines
-heard-work above n handle line answers answer lines r stands =
-    let moved = total-change number_of line_work (changed (heard answer)) above n lines (record { line = line; phase = Begun answers }) r stands in
-    let more = answer-work handle line.request answers answer (next_of handle line.request (answers ++ answer ∷ [])) refl in
+pub heard-work : (above n : ℕ) (handle : Option Handle) (line : Line) (before : Heard) (called : Call) (answer : Brief) (lines : List Standing) → Rises number_of above lines → line_at n lines ≡ Some (record { line = line; phase = Begun before }) → next_of handle line.request before ≡ Asks called → total line_work (change_line n (heard (told_by (question_of called) answer)) lines) + asked_work (next_of handle line.request (with_told (told_by (question_of called) answer) before)) ≤ total line_work lines
+heard-work above n handle line before called answer lines r stands asked =
+    let told : Told = told_by (question_of called) answer in
+    let moved = total-change number_of line_work (changed (heard told)) above n lines (record { line = line; phase = Begun before }) r stands in
+    let more = answer-work handle line.request before called answer asked in
     omega arith
 
 pub replied-work : (above n : ℕ) (s : Standing) (lines : List Standing) → Rises number_of above lines → line_at n lines ≡ Some s → total line_work (change_line n (λ phase. Replied) lines) ≤ total line_work lines
@@ -59,13 +63,13 @@ replied-work above n s lines r stands = let moved = total-change number_of line_
 
 settled-work-cons : (number actor : ℕ) (request : Request) (phase : Phase) (lines : List Standing) → total line_work (settled lines) ≤ total line_work lines → total line_work (settled (standing number actor request phase ∷ lines)) ≤ total line_work (standing number actor request phase ∷ lines)
 settled-work-cons number actor request Waiting lines h = omega arith
-settled-work-cons number actor (Put key content) (Begun answers) lines h = omega arith
-settled-work-cons number actor Await (Begun answers) lines h = omega arith
-settled-work-cons number actor (Stat path) (Begun answers) lines h = omega arith
-settled-work-cons number actor (OpenRead name path) (Begun answers) lines h = omega arith
-settled-work-cons number actor (Read name offset count) (Begun answers) lines h = omega arith
-settled-work-cons number actor (Close name) (Begun answers) lines h = omega arith
-settled-work-cons number actor (Delete key) (Begun answers) lines h = omega arith
+settled-work-cons number actor (Put key content) (Begun heard) lines h = omega arith
+settled-work-cons number actor Await (Begun heard) lines h = omega arith
+settled-work-cons number actor (Stat path) (Begun heard) lines h = omega arith
+settled-work-cons number actor (OpenRead name path) (Begun heard) lines h = omega arith
+settled-work-cons number actor (Read name offset count) (Begun heard) lines h = omega arith
+settled-work-cons number actor (Close name) (Begun heard) lines h = omega arith
+settled-work-cons number actor (Delete key) (Begun heard) lines h = omega arith
 settled-work-cons number actor request Replied lines h = omega arith
 
 pub settled-work : (lines : List Standing) → total line_work (settled lines) ≤ total line_work lines

@@ -48,7 +48,7 @@ jobs_at_once (Delete key) = 1
 
 abbrev pub if_begun : Phase → ℕ → ℕ
 if_begun Waiting count = 0
-if_begun (Begun answers) count = count
+if_begun (Begun heard) count = count
 if_begun Replied count = 0
 
 abbrev pub jobs_wanted : Option Standing → ℕ
@@ -62,7 +62,7 @@ AreOrderly busy (s ∷ lines) = by_phase s.phase (AreOrderly busy lines) (AreOrd
   where
     by_phase : Phase → Type 0 → Type 0 → Type 0
     by_phase Waiting same more = more
-    by_phase (Begun answers) same more = (is_among s.line.actor busy ≡ false) × more
+    by_phase (Begun heard) same more = (is_among s.line.actor busy ≡ false) × more
     by_phase Replied same more = (is_among s.line.actor busy ≡ false) × same
 
 pub record IsAlive (state : ClientState) : Type 0 where

@@ -1,9 +1,10 @@
 -- How many jobs a line asks for.
-use Rattle.std.specs.Prelude.{ℕ, ◌-◌, List, [], Option, Some, None}
+use Rattle.std.specs.Prelude.{ℕ, ◌-◌, List, Option, Some, None}
 use Rattle.mount_model.specs.declared.request.Request.{Request}
 use Rattle.mount_model.specs.declared.standing.Phase.{Phase}
 use Rattle.mount_model.specs.declared.standing.Phase.TheVariants.{Waiting, Begun, Replied}
 use Rattle.mount_model.specs.declared.standing.Standing.{Standing}
+use Rattle.mount_model.specs.Heard.{nothing_heard}
 use Rattle.mount_model.specs.State.{Job}
 use Rattle.run_laws.specs.Alive.{total, if_line}
 use Rattle.run_laws.specs.Work.{calls_left}
@@ -15,10 +16,10 @@ job_for number job = if_line number job.line
 abbrev pub jobs_of : ℕ → List Job → ℕ
 jobs_of number jobs = total (job_for number) jobs
 
--- how many it may still ask for: of what is left after its answers, one call is already asked
+-- how many it may still ask for: of what is left after what it has heard, one call is already asked
 abbrev pub may_ask : Phase → Request → ℕ
-may_ask Waiting request = calls_left request []
-may_ask (Begun answers) request = calls_left request answers - 1
+may_ask Waiting request = calls_left request nothing_heard
+may_ask (Begun heard) request = calls_left request heard - 1
 may_ask Replied request = 0
 
 abbrev pub line_may_ask : Option Standing → ℕ

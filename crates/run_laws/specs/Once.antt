@@ -27,12 +27,12 @@ replies_in number steps = total (λ step. total (replies_to number) step.replies
 -- 1 where a line in this phase has begun, or has its reply
 abbrev pub begun_in : Phase → ℕ
 begun_in Waiting = 0
-begun_in (Begun answers) = 1
+begun_in (Begun heard) = 1
 begun_in Replied = 1
 
 abbrev pub replied_in : Phase → ℕ
 replied_in Waiting = 0
-replied_in (Begun answers) = 0
+replied_in (Begun heard) = 0
 replied_in Replied = 1
 
 abbrev pub for_phase : (Phase → ℕ) → Option Standing → ℕ

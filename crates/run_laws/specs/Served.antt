@@ -1,7 +1,7 @@
 -- Lines and the jobs that they wait for.
-use Rattle.std.specs.Prelude.{◌≡◌, ◌≢◌, ℕ, List, Some}
-use Rattle.bucket_model.specs.declared.answer.Brief.{Brief}
+use Rattle.std.specs.Prelude.{◌≡◌, ◌≢◌, ℕ, Some}
 use Rattle.mount_model.specs.declared.request.Request.TheVariants.{Await}
+use Rattle.mount_model.specs.declared.standing.Heard.{Heard}
 use Rattle.mount_model.specs.declared.standing.Phase.TheVariants.{Begun}
 use Rattle.mount_model.specs.declared.standing.Standing.{Standing}
 use Rattle.mount_model.specs.State.{ClientState, Job, Gone, line_at, job_at}
@@ -10,8 +10,8 @@ use Rattle.mount_model.specs.State.{ClientState, Job, Gone, line_at, job_at}
 pub record IsOwned (state : ClientState) (job : Job) : Type 0 where
   pub standing : Standing
   pub stands : line_at job.line state.lines ≡ Some standing
-  pub answers : List Brief
-  pub begun : standing.phase ≡ Begun answers
+  pub heard : Heard
+  pub begun : standing.phase ≡ Begun heard
   pub no_await : standing.line.request ≢ Await
 
 -- the line has a job that is ready or out

@@ -1,57 +1,72 @@
 -- How many calls a request may still make, and how much is left to do in a state.
-use Rattle.std.specs.Prelude.{ℕ, suc, ◌+◌, ◌*◌, List, [], ◌∷◌, Result, Ok, Err}
+use Rattle.std.specs.Prelude.{ℕ, ◌+◌, ◌*◌, List, [], ◌∷◌, ◌++◌, Option, Some, None, Result, Ok, Err}
 use Rattle.mp_types.specs.declared.path.PathFault.{PathFault}
-use Rattle.mp_types.specs.Path.{path_of}
+use Rattle.mp_types.specs.Path.{path_of, slash}
+use Rattle.mp_rules.specs.declared.facts.Question.{Question}
+use Rattle.mp_rules.specs.declared.facts.Question.TheVariants.{Head, Probe}
+use Rattle.mp_rules.specs.declared.facts.Fact.{Fact}
+use Rattle.mp_rules.specs.Walk.{fact_in}
 use Rattle.bucket_model.specs.declared.answer.Brief.{Brief}
-use Rattle.bucket_model.specs.declared.answer.Brief.TheVariants.{Yes, No}
 use Rattle.mount_model.specs.declared.request.Request.{Request}
 use Rattle.mount_model.specs.declared.request.Request.TheVariants.{Put, Await, Stat, OpenRead, Read, Close, Delete}
+use Rattle.mount_model.specs.declared.standing.Heard.{Heard}
 use Rattle.mount_model.specs.declared.standing.Phase.{Phase}
 use Rattle.mount_model.specs.declared.standing.Phase.TheVariants.{Waiting, Begun, Replied}
 use Rattle.mount_model.specs.declared.standing.Standing.{Standing}
+use Rattle.mount_model.specs.Heard.{nothing_heard}
 use Rattle.mount_model.specs.State.{ClientState, Job, JobPhase, Ready, Out, Gone}
 use Rattle.run_laws.specs.Alive.{total}
 
--- the most calls that may still be asked after these answers, case by case as a line goes on
+-- the most calls that a request may still make after what its line has heard
+
+-- no more, once an answer is there that is no fact
+abbrev pub unless_answered : List Brief → ℕ → ℕ
+unless_answered [] left = left
+unless_answered (answer ∷ answers) left = 0
 
 abbrev pub one_left : List Brief → ℕ
-one_left [] = 1
-one_left (answer ∷ answers) = 0
+one_left answers = unless_answered answers 1
 
-abbrev pub entry_left : List Brief → ℕ
-entry_left [] = 2
-entry_left (No ∷ answers) = one_left answers
-entry_left (answer ∷ answers) = 0
+abbrev pub if_unknown : Option Fact → ℕ
+if_unknown None = 1
+if_unknown (Some fact) = 0
 
-abbrev pub prefix_left : (List Brief → ℕ) → List Brief → ℕ
-prefix_left below [] = suc (below [])
-prefix_left below (Yes ∷ answers) = below answers
-prefix_left below (No ∷ answers) = one_left answers
-prefix_left below (answer ∷ answers) = 0
+-- 1 where the question isn't answered yet
+abbrev pub if_open : (Question → Option Fact) → Question → ℕ
+if_open facts question = if_unknown (facts question)
 
-abbrev pub walk_left : List (List ℕ) → List Brief → ℕ
-walk_left [] answers = entry_left answers
-walk_left (name ∷ names) answers = prefix_left (walk_left names) answers
+-- the open questions about one key
+abbrev pub open_at : (Question → Option Fact) → List ℕ → ℕ
+open_at facts key = if_open facts (Probe key) + if_open facts (Head key)
 
-abbrev pub stat_left : Result (List (List ℕ)) PathFault → List Brief → ℕ
-stat_left (Err why) answers = 0
-stat_left (Ok []) answers = 0
-stat_left (Ok (name ∷ names)) answers = walk_left names answers
+-- those about this key and the names below it
+abbrev pub open_from : (Question → Option Fact) → List ℕ → List (List ℕ) → ℕ
+open_from facts key [] = open_at facts key
+open_from facts key (name ∷ names) = open_at facts key + open_from facts (key ++ slash ∷ name) names
 
-abbrev pub calls_left : Request → List Brief → ℕ
-calls_left (Put key content) answers = one_left answers
-calls_left Await answers = 0
-calls_left (Stat path) answers = stat_left (path_of path) answers
-calls_left (OpenRead name path) answers = stat_left (path_of path) answers
-calls_left (Read name offset count) answers = one_left answers
-calls_left (Close name) answers = 0
-calls_left (Delete key) answers = one_left answers
+-- those about the path of these names: none about the root
+abbrev pub open_along : (Question → Option Fact) → List (List ℕ) → ℕ
+open_along facts [] = 0
+open_along facts (name ∷ names) = open_from facts name names
+
+abbrev pub path_left : Result (List (List ℕ)) PathFault → Heard → ℕ
+path_left (Err why) heard = 0
+path_left (Ok names) heard = unless_answered heard.answers (open_along (fact_in heard.facts) names)
+
+abbrev pub calls_left : Request → Heard → ℕ
+calls_left (Put key content) heard = one_left heard.answers
+calls_left Await heard = 0
+calls_left (Stat path) heard = path_left (path_of path) heard
+calls_left (OpenRead name path) heard = path_left (path_of path) heard
+calls_left (Read name offset count) heard = one_left heard.answers
+calls_left (Close name) heard = 0
+calls_left (Delete key) heard = one_left heard.answers
 
 -- steps still to come: to begin, and two for each call, to take it and to hear its answer
 
 abbrev pub work_of : Phase → Request → ℕ
-work_of Waiting request = 2 * calls_left request [] + 3
-work_of (Begun answers) request = 2 * calls_left request answers
+work_of Waiting request = 2 * calls_left request nothing_heard + 3
+work_of (Begun heard) request = 2 * calls_left request heard
 work_of Replied request = 0
 
 abbrev pub line_work : Standing → ℕ

@@ -18,8 +18,10 @@ ghost use Rattle.mount_model.specs.declared.request.Request.{Request};
 ghost use Rattle.mount_model.specs.declared.request.Request.TheVariants as request;
 ghost use Rattle.mount_model.specs.declared.request.Line.{Line};
 ghost use Rattle.mount_model.specs.declared.event.Event.TheVariants.{Begin, Take, Done};
+ghost use Rattle.mount_model.specs.declared.standing.Heard.{Heard};
 ghost use Rattle.mount_model.specs.declared.standing.Phase.TheVariants.{Begun};
 ghost use Rattle.mount_model.specs.declared.standing.Standing.{Standing};
+ghost use Rattle.mount_model.specs.Heard.{nothing_heard, with_told, question_of, told_by};
 ghost use Rattle.mount_model.specs.Conversation.{Asks, next_of};
 ghost use Rattle.mount_model.specs.Step.{Step};
 ghost use Rattle.mount_model.specs.State.{ClientState, Job, Gone, opening, after, state_after, line_at, job_at, next_at};
@@ -52,10 +54,10 @@ pub fn no_reply_is_lost()
 pub fn each_job_has_its_line()
     ensures owned { (state : ClientState) (number : ℕ) (job : Job) → IsAlive state → job_at number state.jobs ≡ Some job → job.phase ≢ Gone → IsOwned state job }
     ensures alone { (state : ClientState) (i j line : ℕ) (first second : Job) → IsAlive state → job_at i state.jobs ≡ Some first → job_at j state.jobs ≡ Some second → first.phase ≢ Gone → second.phase ≢ Gone → first.line ≡ line → second.line ≡ line → i ≡ j }
-    ensures at_work { (state : ClientState) (number : ℕ) (standing : Standing) (answers : List Brief) → IsAlive state → line_at number state.lines ≡ Some standing → standing.phase ≡ Begun answers → standing.line.request ≢ request.Await → HasJob state number }
+    ensures at_work { (state : ClientState) (number : ℕ) (standing : Standing) (heard : Heard) → IsAlive state → line_at number state.lines ≡ Some standing → standing.phase ≡ Begun heard → standing.line.request ≢ request.Await → HasJob state number }
 {}
 
-/// A job that is ready or out makes the call that its line does next: neither its line's answers nor the
+/// A job that is ready or out makes the call that its line does next: neither what its line has heard nor the
 /// handles of its line's process change until its own answer comes.
 pub fn each_job_makes_its_call()
     ensures step { (state : ClientState) (step : Step) → IsAlive state → IsFaithful state → IsLegalStep state step → IsFaithful (after state step) }
@@ -65,7 +67,7 @@ pub fn each_job_makes_its_call()
 
 /// No job asks for an empty range. This holds of all jobs so far, those that are gone too.
 pub fn calls_may_be_made()
-    ensures asked { (handle : Option Handle) (request : Request) (answers : List Brief) (called : Call) → next_of handle request answers ≡ Asks called → MayBeMade called }
+    ensures asked { (handle : Option Handle) (request : Request) (heard : Heard) (called : Call) → next_of handle request heard ≡ Asks called → MayBeMade called }
     ensures run { (script : List Line) (steps : List Step) (number : ℕ) (job : Job) → AreRising 0 script → IsRunSoFar script steps → job_at number (state_after script steps).jobs ≡ Some job → MayBeMade job.call }
 {}
 
@@ -92,24 +94,25 @@ pub fn each_line_is_answered_once()
     ensures each { (script : List Line) (steps : List Step) → AreRising 0 script → IsRun script steps → AllByRecursion (λ line. replies_in line.number steps ≡ 1) script }
 {}
 
-/// Each step leaves less to do, so that a run has no more steps than the work in its script.
+/// Each step leaves less to do where jobs make the calls that their lines do next, so that a run has no more steps
+/// than the work in its script.
 pub fn each_run_ends()
-    ensures step { (state : ClientState) (step : Step) → IsAlive state → IsLegalStep state step → work_left (after state step) < work_left state }
+    ensures step { (state : ClientState) (step : Step) → IsAlive state → IsFaithful state → IsLegalStep state step → work_left (after state step) < work_left state }
     ensures run { (script : List Line) (steps : List Step) → AreRising 0 script → IsRunSoFar script steps → length steps + work_left (state_after script steps) ≤ work_left (opening script) }
 {}
 
 /// A line asks for at most so many jobs as its request has calls: a put, a delete and a read have 1, a stat
 /// and an open at most 2 for each name of the path, and a close and an await none.
 pub fn calls_are_few()
-    ensures run { (script : List Line) (steps : List Step) → AreRising 0 script → IsRunSoFar script steps → AllByRecursion (λ line. jobs_of line.number (state_after script steps).jobs ≤ calls_left line.request []) script }
-    ensures falls { (handle : Option Handle) (request : Request) (answers : List Brief) (called : Call) (answer : Brief) → next_of handle request answers ≡ Asks called → calls_left request (answers ++ answer ∷ []) < calls_left request answers }
-    ensures put { (key : List ℕ) (content : Data) → calls_left (request.Put key content) [] ≡ 1 }
-    ensures stat { (path : List ℕ) (names : List (List ℕ)) → path_of path ≡ Ok names → calls_left (request.Stat path) [] ≤ 2 * length names }
-    ensures open { (name : ℕ) (path : List ℕ) (names : List (List ℕ)) → path_of path ≡ Ok names → calls_left (request.OpenRead name path) [] ≤ 2 * length names }
-    ensures read { (name offset count : ℕ) → calls_left (request.Read name offset count) [] ≡ 1 }
-    ensures delete { (key : List ℕ) → calls_left (request.Delete key) [] ≡ 1 }
-    ensures faulty { (path : List ℕ) (why : PathFault) → path_of path ≡ Err why → calls_left (request.Stat path) [] ≡ 0 }
-    ensures faulty_open { (name : ℕ) (path : List ℕ) (why : PathFault) → path_of path ≡ Err why → calls_left (request.OpenRead name path) [] ≡ 0 }
-    ensures closes { (name : ℕ) → calls_left (request.Close name) [] ≡ 0 }
-    ensures waits { calls_left request.Await [] ≡ 0 }
+    ensures run { (script : List Line) (steps : List Step) → AreRising 0 script → IsRunSoFar script steps → AllByRecursion (λ line. jobs_of line.number (state_after script steps).jobs ≤ calls_left line.request nothing_heard) script }
+    ensures falls { (handle : Option Handle) (request : Request) (heard : Heard) (called : Call) (answer : Brief) → next_of handle request heard ≡ Asks called → calls_left request (with_told (told_by (question_of called) answer) heard) < calls_left request heard }
+    ensures put { (key : List ℕ) (content : Data) → calls_left (request.Put key content) nothing_heard ≡ 1 }
+    ensures stat { (path : List ℕ) (names : List (List ℕ)) → path_of path ≡ Ok names → calls_left (request.Stat path) nothing_heard ≤ 2 * length names }
+    ensures open { (name : ℕ) (path : List ℕ) (names : List (List ℕ)) → path_of path ≡ Ok names → calls_left (request.OpenRead name path) nothing_heard ≤ 2 * length names }
+    ensures read { (name offset count : ℕ) → calls_left (request.Read name offset count) nothing_heard ≡ 1 }
+    ensures delete { (key : List ℕ) → calls_left (request.Delete key) nothing_heard ≡ 1 }
+    ensures faulty { (path : List ℕ) (why : PathFault) → path_of path ≡ Err why → calls_left (request.Stat path) nothing_heard ≡ 0 }
+    ensures faulty_open { (name : ℕ) (path : List ℕ) (why : PathFault) → path_of path ≡ Err why → calls_left (request.OpenRead name path) nothing_heard ≡ 0 }
+    ensures closes { (name : ℕ) → calls_left (request.Close name) nothing_heard ≡ 0 }
+    ensures waits { calls_left request.Await nothing_heard ≡ 0 }
 {}

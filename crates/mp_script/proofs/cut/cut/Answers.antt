@@ -1,10 +1,10 @@
-use Rattle.std.proofs.Common.{◌+◌}
-use Rattle.std.proofs.lemmas.List.{take_rest}
 use Rattle.mp_script.proofs.Pieces.{found, not_found}
 use Rattle.mp_script.proofs.cut.cut.Goals as goal
 
 pub returns-in-None : goal.returns-in-None
-returns-in-None c = not_found c.args.separator c.args.text.now c.in-None.ensures.place
+returns-in-None c = not_found c.args.separator c.args.text.now c.in-None.ensures
 
 pub returns-in-Some : goal.returns-in-Some
-returns-in-Some c = rw (take_rest c.args.text.now (c.in-Some.at + 1)) (found c.args.separator c.in-Some.at c.args.text.now c.in-Some.ensures.place)
+returns-in-Some c =
+    let place = c.in-Some.ensures.0 in
+    found c.args.separator c.in-Some.at c.args.text.now c.split_at.result.0.now c.split_at.result.1.now c.split_at.ensures.front c.split_at.ensures.back place.high c.in-Some.ensures.1 place.before

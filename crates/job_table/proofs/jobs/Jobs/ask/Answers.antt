@@ -8,9 +8,9 @@ invariant_of-self-in-Err-insert c =
 
 pub invariant_of-self-2 : goal.invariant_of-self-2
 invariant_of-self-2 c =
-    keeps_more c.self.inside.live.entries c.insert-2.new.self.entries c.self.inside.ready.keys c.insert.new.self.keys c.self.inside.count c.in-Some.number c.args.line c.args.call c.self.invariant c.in-Some.ensures.1 c.in-Ok.ensures.keys c.in-Ok-insert.ensures.entries
+    keeps_more c.self.inside.live.entries c.insert-2.new.self.entries c.self.inside.ready.keys c.insert.new.self.keys c.self.inside.count c.in-Some.number c.args.line c.args.call c.args.question c.self.invariant c.in-Some.ensures.1 c.in-Ok.ensures.keys c.in-Ok-insert.ensures.entries
 
 pub returns-clause-ok : goal.returns-clause-ok
 returns-clause-ok c =
     rw (← c.self.view_is)
-    (adds_one c.self.inside.live.entries c.insert-2.new.self.entries c.self.inside.ready.keys c.self.inside.count c.in-Some.number c.args.line c.args.call c.self.invariant c.in-Some.ensures.1 c.in-Ok-insert.ensures.entries)
+    (adds_one c.self.inside.live.entries c.insert-2.new.self.entries c.self.inside.ready.keys c.self.inside.count c.in-Some.number c.args.line c.args.call c.args.question c.self.invariant c.in-Some.ensures.1 c.in-Ok-insert.ensures.entries)

@@ -10,10 +10,10 @@ unreachable-requires c = entry_stands c.args.job c.self.inside.live.entries c.re
 pub invariant_of-self : goal.invariant_of-self
 invariant_of-self c = keeps_without c.args.job c.self.inside.live.entries _ c.self.inside.ready.keys c.self.inside.count c.self.invariant (rw (← c.self.view_is) at c.requires) c.remove.ensures.entries
 
-pub returns-clause-line : goal.returns-clause-line
-returns-clause-line c = λ h stands.
+pub returns-clause-asker : goal.returns-clause-asker
+returns-clause-asker c = λ h stands.
     let is = entry_is c.args.job c.self.inside.live.entries h c.in-Some.live (rw (← c.self.view_is) at stands) c.in-Some.ensures.value in
-    sym (ap (λ (t : Held). t.line) is)
+    (sym (ap (λ (t : Held). t.line) is), sym (ap (λ (t : Held). t.question) is))
 
 pub returns-clause-held : goal.returns-clause-held
 returns-clause-held c = rw (← c.self.view_is) (held_without c.args.job c.self.inside.live.entries _ c.self.inside.ready.keys c.self.inside.count c.self.invariant c.remove.ensures.entries)

@@ -17,9 +17,9 @@ unreachable-requires-in-None-take c =
 
 pub invariant_of-self : goal.invariant_of-self
 invariant_of-self c =
-    let w : Live = record { line = c.in-Some.live.now.line; call = c.take.new.self } in
+    let w : Live = record { line = c.in-Some.live.now.line; call = c.take.new.self; question = c.in-Some.live.now.question } in
     keeps_taken c.args.job c.self.inside.live.entries _ c.self.inside.ready.keys _ c.self.inside.count c.self.invariant
-    (held_taken c.args.job c.self.inside.live.entries _ c.self.inside.ready.keys c.self.inside.count c.in-Some.live.now w c.self.invariant (sym c.in-Some.ensures.value) (c.get_mut.follows.holds w).0 refl c.take.ensures.after)
+    (held_taken c.args.job c.self.inside.live.entries _ c.self.inside.ready.keys c.self.inside.count c.in-Some.live.now w c.self.invariant (sym c.in-Some.ensures.value) (c.get_mut.follows.holds w).0 refl refl c.take.ensures.after)
     c.remove.ensures.keys
 
 pub returns-clause-call : goal.returns-clause-call
@@ -29,6 +29,6 @@ returns-clause-call c = λ h stands.
 
 pub returns-clause-held : goal.returns-clause-held
 returns-clause-held c =
-    let w : Live = record { line = c.in-Some.live.now.line; call = c.take.new.self } in
+    let w : Live = record { line = c.in-Some.live.now.line; call = c.take.new.self; question = c.in-Some.live.now.question } in
     rw (← c.self.view_is)
-    (held_taken c.args.job c.self.inside.live.entries _ c.self.inside.ready.keys c.self.inside.count c.in-Some.live.now w c.self.invariant (sym c.in-Some.ensures.value) (c.get_mut.follows.holds w).0 refl c.take.ensures.after)
+    (held_taken c.args.job c.self.inside.live.entries _ c.self.inside.ready.keys c.self.inside.count c.in-Some.live.now w c.self.invariant (sym c.in-Some.ensures.value) (c.get_mut.follows.holds w).0 refl refl c.take.ensures.after)

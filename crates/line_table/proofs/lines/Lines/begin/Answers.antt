@@ -1,6 +1,7 @@
 use Rattle.std.proofs.Common.{[], refl, ap, arith}
 use Rattle.std.proofs.lemmas.Option.{slice_get_within}
 use Rattle.mount_model.specs.declared.standing.Phase.TheVariants.{Begun}
+use Rattle.mount_model.specs.Heard.{nothing_heard}
 use Rattle.line_table.proofs.Starts.{absent_start}
 use Rattle.line_table.proofs.Kept.{numbers_above, set_phase, begin_kept}
 use Rattle.line_table.proofs.lines.Lines.begin.Goals as goal
@@ -32,4 +33,4 @@ pub invariant_of-self : goal.invariant_of-self
 invariant_of-self c = begin_kept c.args.number _ _ _ _ _ c.self.invariant c.in-Some.i c.in-Ok.at c.index_mut.result.now _ _ _ (rw (← c.as_slice-2.ensures.value) c.in-Some.ensures) c.index_mut.ensures.value refl (ap Begun c.new.ensures) (rw (← c.as_slice.ensures.value) c.in-Ok.ensures) c.remove.ensures.items c.remove.ensures.capacity
 
 pub returns : goal.returns
-returns c = rw (← c.self.view_is) (set_phase c.args.number (λ phase. Begun []) c.self.inside.standings.items c.in-Some.i c.index_mut.result.now _ c.self.invariant.rising (rw (← c.as_slice-2.ensures.value) c.in-Some.ensures) c.index_mut.ensures.value refl (ap Begun c.new.ensures))
+returns c = rw (← c.self.view_is) (set_phase c.args.number (λ phase. Begun nothing_heard) c.self.inside.standings.items c.in-Some.i c.index_mut.result.now _ c.self.invariant.rising (rw (← c.as_slice-2.ensures.value) c.in-Some.ensures) c.index_mut.ensures.value refl (ap Begun c.new.ensures))

@@ -12,7 +12,7 @@ pub invariant_of-self : goal.invariant_of-self
 invariant_of-self c =
     let owes = owes_jobs-without c.args.job c.args.self.now.jobs.held c.requires in
     record {
-      counted = rw c.done-line.ensures.held (omega arith);
+      counted = rw c.done-asker.ensures.held (omega arith);
       enough = omega arith;
       knows = rw c.event.ensures.known c.args.self.now.knows;
       rising = c.args.self.now.rising;

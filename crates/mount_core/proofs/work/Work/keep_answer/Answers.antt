@@ -7,9 +7,9 @@ use Rattle.mount_core.proofs.work.Work.keep_answer.Goals as goal
 
 pub invariant_of-self : goal.invariant_of-self
 invariant_of-self c =
-    let lines = lines_heard c.args.line c.in-Some.answer c.args.self.now.lines c.hear.new.self c.hear.result c.hear.ensures.ok c.hear.ensures.err in
+    let lines = lines_heard c.args.line c.in-Some.told c.args.self.now.lines c.hear.new.self c.hear.result c.hear.ensures.ok c.hear.ensures.err in
     record {
-      counted = rw (owed_heard c.args.line c.in-Some.answer c.args.self.now.lines c.hear.new.self c.hear.result c.hear.ensures.ok c.hear.ensures.err) c.args.self.now.counted;
+      counted = rw (owed_heard c.args.line c.in-Some.told c.args.self.now.lines c.hear.new.self c.hear.result c.hear.ensures.ok c.hear.ensures.err) c.args.self.now.counted;
       enough = c.args.self.now.enough;
       knows = rw lines c.args.self.now.knows;
       rising = rw lines c.args.self.now.rising;

@@ -1,9 +1,0 @@
-use Rattle.std.proofs.Common.{lit<, rules}
-use borrow.Author.Tests.{tests}
-use Rattle.std.proofs.lemmas.Iterator.Search.{all_from_yields_List}
-use Rattle.std.proofs.lemmas.Iterator.Splits.{YieldsList-from_str_split}
-use Rattle.mp_types.specs.Path.{is_valid_name}
-use Rattle.mount_plan.proofs.path.all_names.Goals as goal
-
-pub returns : goal.returns
-returns c = all_from_yields_List is_valid_name _ _ _ c.all.ensures.ran (YieldsList-from_str_split 47 c.args.path.now (lit< tt) c.split.ensures.text c.split.ensures.has_more c.split.ensures.pattern) (λ x b q k. search (rules, tests))

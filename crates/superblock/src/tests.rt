@@ -1,0 +1,119 @@
+use super::*;
+use mp_rules::{Entry, Fact, Known, OwnFacts, Question};
+use mp_types::{ETag, Errno, Key};
+use std::alloc::Global;
+use std::test::*;
+
+fn probed(alloc: Global, key: &str, fact: Fact) -> Result<Known, Fail> {
+    Ok(Known {
+        question: Question::Probe(Key::parse(alloc, key)?),
+        fact,
+    })
+}
+
+fn headed(alloc: Global, key: &str, fact: Fact) -> Result<Known, Fail> {
+    Ok(Known {
+        question: Question::Head(Key::parse(alloc, key)?),
+        fact,
+    })
+}
+
+fn found(size: u64) -> Result<Fact, Fail> {
+    Ok(Fact::Found {
+        etag: ETag::parse("v1")?,
+        size,
+    })
+}
+
+fn asks_probe(decision: Decision, key: &str) -> bool {
+    matches!(decision, Decision::Probe(asked) if asked == key)
+}
+
+fn asks_head(decision: Decision, key: &str) -> bool {
+    matches!(decision, Decision::Head(asked) if asked == key)
+}
+
+fn is_directory(decision: Decision) -> bool {
+    matches!(decision, Decision::Is(Entry::Directory))
+}
+
+fn is_nothing(decision: Decision) -> bool {
+    matches!(decision, Decision::Is(Entry::Nothing))
+}
+
+fn is_file(decision: Decision, bytes: u64) -> bool {
+    matches!(decision, Decision::Is(Entry::File { size, .. }) if size == bytes)
+}
+
+fn refuses(decision: Decision, errno: Errno) -> bool {
+    matches!(decision, Decision::Refused(why) if why == errno)
+}
+
+#[test]
+fn the_root_needs_no_question(rt: HostRuntime) -> Result<(), Fail> {
+    assert!(rt; is_directory(decide("", &OwnFacts::new(rt.alloc()), None)));
+    Ok(())
+}
+
+#[test]
+fn one_name_is_asked_about_twice(rt: HostRuntime) -> Result<(), Fail> {
+    let mut own = OwnFacts::new(rt.alloc());
+    let yes = probed(rt.alloc(), "a", Fact::Yes)?;
+    assert!(rt; asks_probe(decide("a", &own, None), "a"));
+    assert!(rt; is_directory(decide("a", &own, Some(&yes))));
+    own.add(probed(rt.alloc(), "a", Fact::No)?)?;
+    let file = headed(rt.alloc(), "a", found(5)?)?;
+    let missing = headed(rt.alloc(), "a", Fact::Missing)?;
+    assert!(rt; asks_head(decide("a", &own, None), "a"));
+    assert!(rt; is_file(decide("a", &own, Some(&file)), 5));
+    assert!(rt; is_nothing(decide("a", &own, Some(&missing))));
+    Ok(())
+}
+
+#[test]
+fn each_prefix_has_to_be_a_directory(rt: HostRuntime) -> Result<(), Fail> {
+    let mut own = OwnFacts::new(rt.alloc());
+    let yes = probed(rt.alloc(), "a", Fact::Yes)?;
+    assert!(rt; asks_probe(decide("a/b", &own, None), "a"));
+    assert!(rt; asks_probe(decide("a/b", &own, Some(&yes)), "a/b"));
+    own.add(probed(rt.alloc(), "a", Fact::No)?)?;
+    let file = headed(rt.alloc(), "a", found(5)?)?;
+    let missing = headed(rt.alloc(), "a", Fact::Missing)?;
+    assert!(rt; asks_head(decide("a/b", &own, None), "a"));
+    assert!(rt; refuses(decide("a/b", &own, Some(&file)), Errno::Enotdir));
+    assert!(rt; refuses(decide("a/b", &own, Some(&missing)), Errno::Enoent));
+    Ok(())
+}
+
+#[test]
+fn a_directory_hides_a_file(rt: HostRuntime) -> Result<(), Fail> {
+    let mut own = OwnFacts::new(rt.alloc());
+    own.add(headed(rt.alloc(), "a", found(5)?)?)?;
+    own.add(probed(rt.alloc(), "a", Fact::Yes)?)?;
+    assert!(rt; is_directory(decide("a", &own, None)));
+    assert!(rt; asks_probe(decide("a/b", &own, None), "a/b"));
+    Ok(())
+}
+
+#[test]
+fn the_last_fact_may_stand_among_the_others(rt: HostRuntime) -> Result<(), Fail> {
+    let mut own = OwnFacts::new(rt.alloc());
+    own.add(probed(rt.alloc(), "a", Fact::Yes)?)?;
+    own.add(probed(rt.alloc(), "a/b", Fact::No)?)?;
+    let file = headed(rt.alloc(), "a/b", found(5)?)?;
+    assert!(rt; is_file(decide("a/b", &own, Some(&file)), 5));
+    own.add(file)?;
+    assert!(rt; is_file(decide("a/b", &own, None), 5));
+    Ok(())
+}
+
+#[test]
+fn facts_of_other_questions_count_for_nothing(rt: HostRuntime) -> Result<(), Fail> {
+    let mut own = OwnFacts::new(rt.alloc());
+    own.add(probed(rt.alloc(), "b", Fact::Yes)?)?;
+    own.add(headed(rt.alloc(), "a", Fact::Missing)?)?;
+    let no = probed(rt.alloc(), "a", Fact::No)?;
+    assert!(rt; asks_probe(decide("a", &own, None), "a"));
+    assert!(rt; is_nothing(decide("a", &own, Some(&no))));
+    Ok(())
+}
