@@ -27,7 +27,7 @@ REQUESTS_OF_HALF = 30_000
 COMMENT = "#" + "c" * 8_190
 PIECE = 131_072
 PIECES = 512
-HANDLES = 4_000
+HANDLES = 4_096
 ROUNDS = 5
 QUESTIONS = 60_000
 MOST_LINES = 65_536
@@ -77,6 +77,13 @@ def deep_stats(names):
     yield "1 await"
     for n in range(stats_of(names)):
         yield f"1 stat /{path}"
+
+
+def directories(count):
+    """So many directories, each made, asked for and removed."""
+    for verb in ("mkdir", "stat", "rmdir"):
+        for n in range(count):
+            yield f"1 {verb} /d{n:05d}"
 
 
 def stats_of(names):
@@ -179,10 +186,13 @@ cases = [
     ("65,536 lines", requests(full, 2 * puts), full, f"R {full} file 1"),
     ("8,192 lines, half of them comments of 8,191 bytes", with_comments(commented, 3_000), commented // 2, f"R {commented} file 1"),
     ("64 MiB read in pieces of 128 KiB", big_read(PIECES), PIECES + 3, f"R {PIECES + 3} data x" + "78" * PIECE),
-    ("4,000 handles, read in turn five times", many_handles(HANDLES, ROUNDS), HANDLES * (ROUNDS + 1) + 2, f"R {HANDLES * (ROUNDS + 1) + 2} data x34353637"),
+    ("4,096 handles, read in turn five times", many_handles(HANDLES, ROUNDS), HANDLES * (ROUNDS + 1) + 2, f"R {HANDLES * (ROUNDS + 1) + 2} data x34353637"),
 ] + [
     (f"{stats_of(names):,} stats of a path of {names} names", deep_stats(names), stats_of(names) + 2, f"R {stats_of(names) + 2} file 1", 2 * names * stats_of(names) + 1)
     for names in (2, 512)
+] + [
+    (f"{count:,} directories made, asked for and removed", directories(count), 3 * count, f"R {3 * count} ok", 4 * count)
+    for count in (1_000, 10_000)
 ]
 
 print(f"Best of {RUNS} runs, seconds on the wall. The ratio is to the line above.")

@@ -174,6 +174,9 @@ due_here number actor (request.OpenRead name path) (Begun before) lines rising o
 due_here number actor (request.Read name offset count) (Begun before) lines rising open_ = refl
 due_here number actor (request.Close name) (Begun before) lines rising open_ = refl
 due_here number actor (request.Delete key) (Begun before) lines rising open_ = refl
+due_here number actor (request.MakeDir path) (Begun before) lines rising open_ = refl
+due_here number actor (request.RemoveDir path) (Begun before) lines rising open_ = refl
+due_here number actor (request.Unlink path) (Begun before) lines rising open_ = refl
 due_here number actor request Replied lines rising open_ = absurd (open_ refl)
 
 awaited_is : (s : Standing) (n : ℕ) → awaited s ≡ Some n → s.line.number ≡ n
@@ -187,6 +190,9 @@ awaited_is s n is = by_phase s.phase is
     of_await before (request.Read name offset count) is = absurd (cc)
     of_await before (request.Close name) is = absurd (cc)
     of_await before (request.Delete key) is = absurd (cc)
+    of_await before (request.MakeDir path) is = absurd (cc)
+    of_await before (request.RemoveDir path) is = absurd (cc)
+    of_await before (request.Unlink path) is = absurd (cc)
 
     by_phase : (p : Phase) → awaited (record { line = s.line; phase = p }) ≡ Some n → s.line.number ≡ n
     by_phase Waiting is = absurd (cc)

@@ -96,6 +96,9 @@ awaited s = by_phase s.phase
         by_request (request.Read name offset count) = None
         by_request (request.Close name) = None
         by_request (request.Delete key) = None
+        by_request (request.MakeDir path) = None
+        by_request (request.RemoveDir path) = None
+        by_request (request.Unlink path) = None
     by_phase Replied = None
 
 -- what a table keeps true of its parts

@@ -10,4 +10,3 @@ pub mod Turns
 pub mod Hearing
 pub mod Places
 pub mod Known
-pub mod Named

@@ -1,13 +1,24 @@
--- What a line opens and gives, by what it did before.
-use Rattle.std.proofs.Common.{◌≡◌, ℕ, List, [], ◌∷◌, ◌++◌, Option, Some, None, Result, Ok, Err, refl, ap, subst}
+-- What a line opens, makes, removes and gives, by what it sees of the mount and by what it did before.
+use Rattle.std.proofs.Common.{◌≡◌, ◌≢◌, ℕ, Bool, true, false, List, [], ◌∷◌, ◌++◌, if◌then◌else◌, ◌==◌, Option, Some, None, Result, Ok, Err, refl, ap, ◌∙◌, subst, append_assoc}
+use Rattle.std.specs.Ordering.{nat_cmp}
+use Rattle.std.specs.Cmp.Lexicographic.{slice_cmp}
+use Rattle.std.specs.FinSet as set
+use Rattle.std.proofs.lemmas.Bool.{eqb-false}
+use Rattle.mp_types.specs.declared.errno.Errno.TheVariants.{Eperm, Eexist, Eisdir, Emfile, Enotempty}
 use Rattle.mp_types.specs.declared.path.PathFault.{PathFault}
-use Rattle.mp_types.specs.Path.{path_of, joined}
+use Rattle.mp_types.specs.Path.{path_of, joined, slash}
 use Rattle.mp_types.specs.Content.{bytes_of}
+use Rattle.mp_types.specs.HandleName.{max_handles}
 use Rattle.mp_rules.specs.declared.entry.Entry.{Entry}
-use Rattle.mp_rules.specs.declared.entry.Entry.TheVariants.{Directory, File, Nothing}
+use Rattle.mp_rules.specs.declared.entry.Entry.TheVariants.{RemoteDir, LocalDir, File, Nothing}
+use Rattle.mp_rules.specs.declared.entry.Local.{Local}
+use Rattle.mp_rules.specs.declared.entry.Local.TheVariants as local
 use Rattle.mp_rules.specs.declared.facts.Question.{Question}
+use Rattle.mp_rules.specs.declared.facts.Question.TheVariants.{Head, Probe}
 use Rattle.mp_rules.specs.declared.facts.Fact.{Fact}
-use Rattle.mp_rules.specs.Walk.{Decision, Need, Is, Refused, fact_in, stands_at}
+use Rattle.mp_rules.specs.declared.facts.Fact.TheVariants as fact
+use Rattle.mp_rules.specs.Walk.{Decision, Need, Is, Refused, fact_in, below, by_local, by_probe, entry_at, walk}
+use Rattle.mp_rules.specs.Local.{LocalNames, local_at, has_name_below}
 use Rattle.bucket_model.specs.declared.call.Call.{Call}
 use Rattle.bucket_model.specs.declared.answer.Brief.{Brief}
 use Rattle.bucket_model.specs.declared.answer.Brief.TheVariants as answer
@@ -15,110 +26,240 @@ use Rattle.mount_model.specs.declared.handle.Handle.{Handle}
 use Rattle.mount_model.specs.declared.handle.Version.{Version}
 use Rattle.mount_model.specs.declared.request.Request.{Request}
 use Rattle.mount_model.specs.declared.request.Request.TheVariants as request
+use Rattle.mount_model.specs.declared.request.Reply.{Reply}
+use Rattle.mount_model.specs.declared.request.Reply.TheVariants as reply
 use Rattle.mount_model.specs.declared.standing.Heard.{Heard}
 use Rattle.mount_model.specs.declared.standing.Told.{Told}
 use Rattle.mount_model.specs.declared.standing.Told.TheVariants.{Fact as AFact, Answer}
 use Rattle.mount_model.specs.Heard.{nothing_heard, with_told, fact_of, told_from, told_by}
-use Rattle.mount_model.specs.Conversation.{Next, Asks, Replies, Opens, Gives, Waits, Range, next_of, put_next, delete_next, stat_next, stat_at, open_at, open_next, at_path, range_next, range_in, read_next, close_next}
+use Rattle.mount_model.specs.Conversation.{Next, Asks, Replies, Makes, Removes, Opens, Gives, Waits, View, Range, fails, next_of, put_next, delete_next, at_path, along, stat_at, stat_next, open_at, open_next, make_at, make_next, remove_at, remove_next, unlink_at, unlink_next, range_next, range_in, read_next, close_next}
 use Rattle.run_laws.proofs.Conversation.{IsRead, gives-read}
+use Rattle.local_names.specs.Names.{is_name}
+use Rattle.mount_core.specs.Turn.{RemovesKey}
 
--- a handle is opened only under a name that is free
-abbrev IsFree : Option Handle → Next → Type 0
-IsFree handle (Asks called) = Unit {0}
-IsFree handle (Replies said) = Unit {0}
-IsFree handle (Opens version) = handle ≡ None
-IsFree handle (Gives count) = Unit {0}
-IsFree handle Waits = Unit {0}
+-- what the walk finds stands at the path's own key
 
-put-free : (h : Option Handle) (key bytes : List ℕ) (answers : List Brief) → IsFree h (put_next key bytes answers)
-put-free h key bytes [] = tt
-put-free h key bytes (answer.Found etag size ∷ answers) = tt
-put-free h key bytes (answer.Missing ∷ answers) = tt
-put-free h key bytes (answer.Yes ∷ answers) = tt
-put-free h key bytes (answer.No ∷ answers) = tt
-put-free h key bytes (answer.Bytes count ∷ answers) = tt
-put-free h key bytes (answer.Changed ∷ answers) = tt
-put-free h key bytes (answer.Gone ∷ answers) = tt
-put-free h key bytes (answer.Made etag ∷ answers) = tt
-put-free h key bytes (answer.Fault ∷ answers) = tt
-put-free h key bytes (answer.NoMemory ∷ answers) = tt
+rest_is : (first rest : Decision) (entry : Entry) → below first rest ≡ Is entry → rest ≡ Is entry
+rest_is (Need question) rest entry is = absurd (cc)
+rest_is (Is RemoteDir) rest entry is = is
+rest_is (Is LocalDir) rest entry is = is
+rest_is (Is (File etag size)) rest entry is = absurd (cc)
+rest_is (Is Nothing) rest entry is = absurd (cc)
+rest_is (Refused errno) rest entry is = absurd (cc)
 
-delete-free : (h : Option Handle) (key : List ℕ) (answers : List Brief) → IsFree h (delete_next key answers)
-delete-free h key [] = tt
-delete-free h key (answer.Found etag size ∷ answers) = tt
-delete-free h key (answer.Missing ∷ answers) = tt
-delete-free h key (answer.Yes ∷ answers) = tt
-delete-free h key (answer.No ∷ answers) = tt
-delete-free h key (answer.Bytes count ∷ answers) = tt
-delete-free h key (answer.Changed ∷ answers) = tt
-delete-free h key (answer.Gone ∷ answers) = tt
-delete-free h key (answer.Made etag ∷ answers) = tt
-delete-free h key (answer.Fault ∷ answers) = tt
-delete-free h key (answer.NoMemory ∷ answers) = tt
+joined-longer : (key name : List ℕ) (names : List (List ℕ)) → joined ((key ++ slash ∷ name) ∷ names) ≡ joined (key ∷ name ∷ names)
+joined-longer key name [] = refl
+joined-longer key name (next ∷ names) = append_assoc key (slash ∷ name) (slash ∷ joined (next ∷ names))
 
-path-free : (h : Option Handle) (at : Entry → Next) → ((entry : Entry) → IsFree h (at entry)) → (decision : Decision) (answers : List Brief) → IsFree h (at_path at decision answers)
-path-free h at free decision (answer ∷ answers) = tt
-path-free h at free (Need question) [] = tt
-path-free h at free (Is entry) [] = free entry
-path-free h at free (Refused errno) [] = tt
+walked : (facts : Question → Option Fact) (locals : List ℕ → Local) (key : List ℕ) (names : List (List ℕ)) (entry : Entry) → walk facts locals key names ≡ Is entry → entry_at facts locals (joined (key ∷ names)) ≡ Is entry
+walked facts locals key [] entry is = is
+walked facts locals key (name ∷ names) entry is =
+    let rest = rest_is (entry_at facts locals key) (walk facts locals (key ++ slash ∷ name) names) entry is in
+    subst (λ (k : List ℕ). entry_at facts locals k ≡ Is entry) (joined-longer key name names) (walked facts locals (key ++ slash ∷ name) names entry rest)
 
-stat_at-free : (h : Option Handle) (entry : Entry) → IsFree h (stat_at entry)
-stat_at-free h Directory = tt
-stat_at-free h (File etag size) = tt
-stat_at-free h Nothing = tt
+-- where nothing stands at a key, no directory of the mount's own does
 
-stat-free : (h : Option Handle) (path : Result (List (List ℕ)) PathFault) (heard : Heard) → IsFree h (stat_next path heard)
-stat-free h (Err why) heard = tt
-stat-free h (Ok names) heard = path-free h stat_at (stat_at-free h) (stands_at (fact_in heard.facts) names) heard.answers
+not_made : (key : List ℕ) (own : Local) (head : Option Fact) → by_local key own head ≡ Is Nothing → own ≢ local.Dir
+not_made key local.Dir head is = absurd (cc)
+not_made key local.None head is = λ dir. absurd (cc)
+not_made key local.File head is = λ dir. absurd (cc)
 
-open_at-free : (key : List ℕ) (entry : Entry) → IsFree None (open_at key entry)
-open_at-free key Directory = tt
-open_at-free key (File etag size) = refl
-open_at-free key Nothing = tt
+not_there : (key : List ℕ) (probe : Option Fact) (own : Local) (head : Option Fact) → by_probe key probe own head ≡ Is Nothing → own ≢ local.Dir
+not_there key None own head is = absurd (cc)
+not_there key (Some fact.Yes) own head is = absurd (cc)
+not_there key (Some (fact.Found etag size)) own head is = not_made key own head is
+not_there key (Some fact.Missing) own head is = not_made key own head is
+not_there key (Some fact.No) own head is = not_made key own head is
 
-open-free : (h : Option Handle) (path : Result (List (List ℕ)) PathFault) (heard : Heard) → IsFree h (open_next h path heard)
-open-free h (Err why) heard = tt
-open-free (Some handle) (Ok names) heard = tt
-open-free None (Ok names) heard = path-free None (open_at (joined names)) (open_at-free (joined names)) (stands_at (fact_in heard.facts) names) heard.answers
+no_dir : (names : LocalNames) (key : List ℕ) → local_at names key ≢ local.Dir → set.contains names.dirs key ≡ false
+no_dir names key other = go (set.contains names.dirs key) refl
+  where
+    go : (b : Bool) → set.contains names.dirs key ≡ b → set.contains names.dirs key ≡ false
+    go true is = absurd (other (rw is refl))
+    go false is = is
 
-range-free : (h : Option Handle) (version : Version) (range : Option Range) (answers : List Brief) → IsFree h (range_next version range answers)
-range-free h version None answers = tt
-range-free h version (Some range) [] = tt
-range-free h version (Some range) (answer.Found etag size ∷ answers) = tt
-range-free h version (Some range) (answer.Missing ∷ answers) = tt
-range-free h version (Some range) (answer.Yes ∷ answers) = tt
-range-free h version (Some range) (answer.No ∷ answers) = tt
-range-free h version (Some range) (answer.Bytes count ∷ answers) = tt
-range-free h version (Some range) (answer.Changed ∷ answers) = tt
-range-free h version (Some range) (answer.Gone ∷ answers) = tt
-range-free h version (Some range) (answer.Made etag ∷ answers) = tt
-range-free h version (Some range) (answer.Fault ∷ answers) = tt
-range-free h version (Some range) (answer.NoMemory ∷ answers) = tt
+no_file : (names : LocalNames) (key : List ℕ) → set.len names.files ≡ 0 → set.contains names.files key ≡ false
+no_file names key none = ap (λ (files : set.FinSet (slice_cmp nat_cmp)). set.contains files key) (set.empty_of_len names.files none) ∙ set.contains-empty (slice_cmp nat_cmp) key
 
-read-free : (h : Option Handle) (offset count : ℕ) (answers : List Brief) → IsFree h (read_next h offset count answers)
-read-free None offset count answers = tt
-read-free (Some handle) offset count answers = range-free (Some handle) handle.version (range_in offset count handle.version.size) answers
+no_name : (facts : Question → Option Fact) (names : LocalNames) (key : List ℕ) → entry_at facts (local_at names) key ≡ Is Nothing → set.len names.files ≡ 0 → is_name names key ≡ false
+no_name facts names key is none = rw (no_dir names key (not_there key (facts (Probe key)) (local_at names key) (facts (Head key)) is), no_file names key none) refl
 
-close-free : (h : Option Handle) → IsFree h (close_next h)
-close-free None = tt
-close-free (Some handle) = tt
+-- What a line opens has a free name, and there is a place for its handle. A directory that it makes is no name yet, where
+-- no file is one; and it removes the directory of its own path.
+abbrev Fits : View → Request → Next → Type 0
+Fits view r (Asks called) = Unit {0}
+Fits view r (Replies said) = Unit {0}
+Fits view r (Makes key) = set.len view.names.files ≡ 0 → is_name view.names key ≡ false
+Fits view r (Removes key) = RemovesKey r key
+Fits view r (Opens version) = (view.handle ≡ None) × (view.live ≢ max_handles)
+Fits view r (Gives count) = Unit {0}
+Fits view r Waits = Unit {0}
 
-next-free : (h : Option Handle) (r : Request) (heard : Heard) → IsFree h (next_of h r heard)
-next-free h (request.Put key content) heard = put-free h key (bytes_of content) heard.answers
-next-free h request.Await heard = tt
-next-free h (request.Stat path) heard = stat-free h (path_of path) heard
-next-free h (request.OpenRead name path) heard = open-free h (path_of path) heard
-next-free h (request.Read name offset count) heard = read-free h offset count heard.answers
-next-free h (request.Close name) heard = close-free h
-next-free h (request.Delete key) heard = delete-free h key heard.answers
+put-fits : (view : View) (r : Request) (key bytes : List ℕ) (answers : List Brief) → Fits view r (put_next key bytes answers)
+put-fits view r key bytes [] = tt
+put-fits view r key bytes (answer.Found etag size ∷ answers) = tt
+put-fits view r key bytes (answer.Missing ∷ answers) = tt
+put-fits view r key bytes (answer.Yes ∷ answers) = tt
+put-fits view r key bytes (answer.No ∷ answers) = tt
+put-fits view r key bytes (answer.Bytes count ∷ answers) = tt
+put-fits view r key bytes (answer.Changed ∷ answers) = tt
+put-fits view r key bytes (answer.Gone ∷ answers) = tt
+put-fits view r key bytes (answer.Made etag ∷ answers) = tt
+put-fits view r key bytes (answer.Fault ∷ answers) = tt
+put-fits view r key bytes (answer.NoMemory ∷ answers) = tt
 
--- a handle is opened under a name that is free
-pub opens_free : (h : Option Handle) (r : Request) (heard : Heard) (version : Version) → next_of h r heard ≡ Opens version → h ≡ None
-opens_free h r heard version is = subst (IsFree h) is (next-free h r heard)
+delete-fits : (view : View) (r : Request) (key : List ℕ) (answers : List Brief) → Fits view r (delete_next key answers)
+delete-fits view r key [] = tt
+delete-fits view r key (answer.Found etag size ∷ answers) = tt
+delete-fits view r key (answer.Missing ∷ answers) = tt
+delete-fits view r key (answer.Yes ∷ answers) = tt
+delete-fits view r key (answer.No ∷ answers) = tt
+delete-fits view r key (answer.Bytes count ∷ answers) = tt
+delete-fits view r key (answer.Changed ∷ answers) = tt
+delete-fits view r key (answer.Gone ∷ answers) = tt
+delete-fits view r key (answer.Made etag ∷ answers) = tt
+delete-fits view r key (answer.Fault ∷ answers) = tt
+delete-fits view r key (answer.NoMemory ∷ answers) = tt
+
+-- what is done where this stands at the path fits
+abbrev FitAt : View → Request → (Question → Option Fact) → List (List ℕ) → (Entry → Next) → Type 0
+FitAt view r facts names at = (entry : Entry) → entry_at facts (local_at view.names) (joined names) ≡ Is entry → Fits view r (at entry)
+
+along-fits : (view : View) (r : Request) (root : Reply) (at : Entry → Next) (names : List (List ℕ)) (heard : Heard) → FitAt view r (fact_in heard.facts) names at → Fits view r (along view (Replies root) at names heard)
+along-fits view r root at [] heard fit = tt
+along-fits view r root at (name ∷ names) heard fit = go (walk (fact_in heard.facts) (local_at view.names) name names) heard.answers refl
+  where
+    go : (decision : Decision) (answers : List Brief) → walk (fact_in heard.facts) (local_at view.names) name names ≡ decision → Fits view r (at_path at decision answers)
+    go decision (answer ∷ answers) is = tt
+    go (Need (Head key)) [] is = tt
+    go (Need (Probe key)) [] is = tt
+    go (Is entry) [] is = fit entry (walked (fact_in heard.facts) (local_at view.names) name names entry is)
+    go (Refused errno) [] is = tt
+
+stat_at-fits : (view : View) (r : Request) (entry : Entry) → Fits view r (stat_at entry)
+stat_at-fits view r RemoteDir = tt
+stat_at-fits view r LocalDir = tt
+stat_at-fits view r (File etag size) = tt
+stat_at-fits view r Nothing = tt
+
+stat-fits : (view : View) (r : Request) (path : Result (List (List ℕ)) PathFault) (heard : Heard) → Fits view r (stat_next view path heard)
+stat-fits view r (Err why) heard = tt
+stat-fits view r (Ok names) heard = along-fits view r reply.Directory stat_at names heard (λ entry is. stat_at-fits view r entry)
+
+open_at-fits : (view : View) (r : Request) (key : List ℕ) → view.handle ≡ None → (entry : Entry) → Fits view r (open_at view.live key entry)
+open_at-fits view r key free RemoteDir = tt
+open_at-fits view r key free LocalDir = tt
+open_at-fits view r key free (File etag size) = go (view.live == max_handles) refl
+  where
+    go : (full : Bool) → (view.live == max_handles) ≡ full → Fits view r (if full then fails Emfile else Opens (record { key = key; etag = etag; size = size }))
+    go true is = tt
+    go false is = (free, eqb-false view.live max_handles is)
+open_at-fits view r key free Nothing = tt
+
+open-fits : (view : View) (r : Request) (path : Result (List (List ℕ)) PathFault) (heard : Heard) (handle : Option Handle) → view.handle ≡ handle → Fits view r (open_next view handle path heard)
+open-fits view r (Err why) heard handle is = tt
+open-fits view r (Ok names) heard (Some handle) is = tt
+open-fits view r (Ok names) heard None is = along-fits view r (reply.Failed Eisdir) (open_at view.live (joined names)) names heard (λ entry there. open_at-fits view r (joined names) is entry)
+
+make_at-fits : (view : View) (r : Request) (facts : Question → Option Fact) (key : List ℕ) (entry : Entry) → entry_at facts (local_at view.names) key ≡ Is entry → Fits view r (make_at key entry)
+make_at-fits view r facts key RemoteDir is = tt
+make_at-fits view r facts key LocalDir is = tt
+make_at-fits view r facts key (File etag size) is = tt
+make_at-fits view r facts key Nothing is = no_name facts view.names key is
+
+make-fits : (view : View) (r : Request) (path : Result (List (List ℕ)) PathFault) (heard : Heard) → Fits view r (make_next view path heard)
+make-fits view r (Err why) heard = tt
+make-fits view r (Ok names) heard = along-fits view r (reply.Failed Eexist) (make_at (joined names)) names heard (make_at-fits view r (fact_in heard.facts) (joined names))
+
+remove_at-fits : (view : View) (r : Request) (key : List ℕ) → RemovesKey r key → (entry : Entry) → Fits view r (remove_at view.names key entry)
+remove_at-fits view r key removes RemoteDir = tt
+remove_at-fits view r key removes LocalDir = go (has_name_below view.names key)
+  where
+    go : (some : Bool) → Fits view r (if some then fails Enotempty else Removes key)
+    go true = tt
+    go false = removes
+remove_at-fits view r key removes (File etag size) = tt
+remove_at-fits view r key removes Nothing = tt
+
+remove-fits : (view : View) (text : List ℕ) (path : Result (List (List ℕ)) PathFault) (heard : Heard) → path_of text ≡ path → Fits view (request.RemoveDir text) (remove_next view path heard)
+remove-fits view text (Err why) heard is = tt
+remove-fits view text (Ok names) heard is =
+    along-fits view (request.RemoveDir text) (reply.Failed Eperm) (remove_at view.names (joined names)) names heard
+    (λ entry there. remove_at-fits view (request.RemoveDir text) (joined names) (record { path = text; is = refl; names = names; path_is = is; key_is = refl }) entry)
+
+unlink_at-fits : (view : View) (r : Request) (may_delete : Bool) (key : List ℕ) (entry : Entry) → Fits view r (unlink_at may_delete key entry)
+unlink_at-fits view r may_delete key RemoteDir = tt
+unlink_at-fits view r may_delete key LocalDir = tt
+unlink_at-fits view r true key (File etag size) = tt
+unlink_at-fits view r false key (File etag size) = tt
+unlink_at-fits view r may_delete key Nothing = tt
+
+unlink-fits : (view : View) (r : Request) (path : Result (List (List ℕ)) PathFault) (heard : Heard) → Fits view r (unlink_next view path heard)
+unlink-fits view r (Err why) heard = tt
+unlink-fits view r (Ok names) heard = go heard.answers
+  where
+    walks : (answers : List Brief) → Fits view r (along view (fails Eisdir) (unlink_at view.options.allow_delete (joined names)) names (record { facts = heard.facts; answers = answers }))
+    walks answers = along-fits view r (reply.Failed Eisdir) (unlink_at view.options.allow_delete (joined names)) names (record { facts = heard.facts; answers = answers }) (λ entry is. unlink_at-fits view r view.options.allow_delete (joined names) entry)
+
+    go : (answers : List Brief) → Fits view r (unlink_next view (Ok names) (record { facts = heard.facts; answers = answers }))
+    go [] = walks []
+    go (answer.Found etag size ∷ answers) = walks (answer.Found etag size ∷ answers)
+    go (answer.Missing ∷ answers) = walks (answer.Missing ∷ answers)
+    go (answer.Yes ∷ answers) = walks (answer.Yes ∷ answers)
+    go (answer.No ∷ answers) = walks (answer.No ∷ answers)
+    go (answer.Bytes count ∷ answers) = walks (answer.Bytes count ∷ answers)
+    go (answer.Changed ∷ answers) = walks (answer.Changed ∷ answers)
+    go (answer.Gone ∷ answers) = tt
+    go (answer.Made etag ∷ answers) = walks (answer.Made etag ∷ answers)
+    go (answer.Fault ∷ answers) = walks (answer.Fault ∷ answers)
+    go (answer.NoMemory ∷ answers) = walks (answer.NoMemory ∷ answers)
+
+range-fits : (view : View) (r : Request) (version : Version) (range : Option Range) (answers : List Brief) → Fits view r (range_next version range answers)
+range-fits view r version None answers = tt
+range-fits view r version (Some range) [] = tt
+range-fits view r version (Some range) (answer.Found etag size ∷ answers) = tt
+range-fits view r version (Some range) (answer.Missing ∷ answers) = tt
+range-fits view r version (Some range) (answer.Yes ∷ answers) = tt
+range-fits view r version (Some range) (answer.No ∷ answers) = tt
+range-fits view r version (Some range) (answer.Bytes count ∷ answers) = tt
+range-fits view r version (Some range) (answer.Changed ∷ answers) = tt
+range-fits view r version (Some range) (answer.Gone ∷ answers) = tt
+range-fits view r version (Some range) (answer.Made etag ∷ answers) = tt
+range-fits view r version (Some range) (answer.Fault ∷ answers) = tt
+range-fits view r version (Some range) (answer.NoMemory ∷ answers) = tt
+
+read-fits : (view : View) (r : Request) (handle : Option Handle) (offset count : ℕ) (answers : List Brief) → Fits view r (read_next handle offset count answers)
+read-fits view r None offset count answers = tt
+read-fits view r (Some handle) offset count answers = range-fits view r handle.version (range_in offset count handle.version.size) answers
+
+close-fits : (view : View) (r : Request) (handle : Option Handle) → Fits view r (close_next handle)
+close-fits view r None = tt
+close-fits view r (Some handle) = tt
+
+next-fits : (view : View) (r : Request) (heard : Heard) → Fits view r (next_of view r heard)
+next-fits view (request.Put key content) heard = put-fits view (request.Put key content) key (bytes_of content) heard.answers
+next-fits view request.Await heard = tt
+next-fits view (request.Stat path) heard = stat-fits view (request.Stat path) (path_of path) heard
+next-fits view (request.OpenRead name path) heard = open-fits view (request.OpenRead name path) (path_of path) heard view.handle refl
+next-fits view (request.Read name offset count) heard = read-fits view (request.Read name offset count) view.handle offset count heard.answers
+next-fits view (request.Close name) heard = close-fits view (request.Close name) view.handle
+next-fits view (request.Delete key) heard = delete-fits view (request.Delete key) key heard.answers
+next-fits view (request.MakeDir path) heard = make-fits view (request.MakeDir path) (path_of path) heard
+next-fits view (request.RemoveDir path) heard = remove-fits view path (path_of path) heard refl
+next-fits view (request.Unlink path) heard = unlink-fits view (request.Unlink path) (path_of path) heard
+
+pub opens_fits : (view : View) (r : Request) (heard : Heard) (version : Version) → next_of view r heard ≡ Opens version → (view.handle ≡ None) × (view.live ≢ max_handles)
+opens_fits view r heard version is = subst (Fits view r) is (next-fits view r heard)
+
+pub makes_fits : (view : View) (r : Request) (heard : Heard) (key : List ℕ) → next_of view r heard ≡ Makes key → set.len view.names.files ≡ 0 → is_name view.names key ≡ false
+makes_fits view r heard key is = subst (Fits view r) is (next-fits view r heard)
+
+pub removes_fits : (view : View) (r : Request) (heard : Heard) (key : List ℕ) → next_of view r heard ≡ Removes key → RemovesKey r key
+removes_fits view r heard key is = subst (Fits view r) is (next-fits view r heard)
 
 -- what a line gives before any answer is empty
-pub gives_none : (handle : Option Handle) (r : Request) (count : ℕ) → next_of handle r nothing_heard ≡ Gives count → count ≡ 0
-gives_none handle r count is = by_request r (gives-read handle r nothing_heard count is) is
+pub gives_none : (view : View) (r : Request) (count : ℕ) → next_of view r nothing_heard ≡ Gives count → count ≡ 0
+gives_none view r count is = by_request r (gives-read view r nothing_heard count is) is
   where
     by_range : (version : Version) (range : Option Range) → range_next version range [] ≡ Gives count → count ≡ 0
     by_range version None is = cc
@@ -128,14 +269,17 @@ gives_none handle r count is = by_request r (gives-read handle r nothing_heard c
     by_handle None offset asked is = absurd (cc)
     by_handle (Some handle) offset asked is = by_range handle.version (range_in offset asked handle.version.size) is
 
-    by_request : (r : Request) → IsRead r → next_of handle r nothing_heard ≡ Gives count → count ≡ 0
-    by_request (request.Read name offset asked) read is = by_handle handle offset asked is
+    by_request : (r : Request) → IsRead r → next_of view r nothing_heard ≡ Gives count → count ≡ 0
+    by_request (request.Read name offset asked) read is = by_handle view.handle offset asked is
     by_request (request.Put key content) read is = absurd read
     by_request request.Await read is = absurd read
     by_request (request.Stat path) read is = absurd read
     by_request (request.OpenRead name path) read is = absurd read
     by_request (request.Close name) read is = absurd read
     by_request (request.Delete key) read is = absurd read
+    by_request (request.MakeDir path) read is = absurd read
+    by_request (request.RemoveDir path) read is = absurd read
+    by_request (request.Unlink path) read is = absurd read
 
 -- an answer that tells no fact is told itself
 answer-told : (question : Option Question) (last told : Brief) → told_by question last ≡ Answer told → last ≡ told
@@ -147,9 +291,9 @@ answer-told question last told is = by_fact question (fact_of last) is
     by_fact (Some asked) (Some tells) is = absurd (cc)
 
 -- and behind its one answer it is what that answer brought
-pub gives_brought : (handle : Option Handle) (r : Request) (heard : Heard) (called : Call) (question : Option Question) (last : Brief) (count : ℕ) → next_of handle r heard ≡ Asks called → next_of handle r (with_told (told_by question last) heard) ≡ Gives count → last ≡ answer.Bytes count
-gives_brought handle r heard called question last count asks gives =
-    answer-told question last (answer.Bytes count) (by_request r (told_by question last) (gives-read handle r (with_told (told_by question last) heard) count gives) asks gives)
+pub gives_brought : (view : View) (r : Request) (heard : Heard) (called : Call) (question : Option Question) (last : Brief) (count : ℕ) → next_of view r heard ≡ Asks called → next_of view r (with_told (told_by question last) heard) ≡ Gives count → last ≡ answer.Bytes count
+gives_brought view r heard called question last count asks gives =
+    answer-told question last (answer.Bytes count) (by_request r (told_by question last) (gives-read view r (with_told (told_by question last) heard) count gives) asks gives)
   where
     by_last : (version : Version) (range : Range) (last : Brief) → range_next version (Some range) (last ∷ []) ≡ Gives count → last ≡ answer.Bytes count
     by_last version range (answer.Bytes n) gives = let same : n ≡ count = cc in ap (λ k. answer.Bytes k) same
@@ -185,11 +329,11 @@ gives_brought handle r heard called question last count asks gives =
     by_handle (Some handle) offset asked last asks gives = by_range handle.version (range_in offset asked handle.version.size) heard.answers last asks gives
 
     -- a fact leaves a read where it is
-    by_told : (told : Told) (offset asked : ℕ) → read_next handle offset asked heard.answers ≡ Asks called → read_next handle offset asked (with_told told heard).answers ≡ Gives count → told ≡ Answer (answer.Bytes count)
+    by_told : (told : Told) (offset asked : ℕ) → read_next view.handle offset asked heard.answers ≡ Asks called → read_next view.handle offset asked (with_told told heard).answers ≡ Gives count → told ≡ Answer (answer.Bytes count)
     by_told (AFact known) offset asked asks gives = absurd (cc)
-    by_told (Answer last) offset asked asks gives = ap Answer (by_handle handle offset asked last asks gives)
+    by_told (Answer last) offset asked asks gives = ap Answer (by_handle view.handle offset asked last asks gives)
 
-    by_request : (r : Request) (told : Told) → IsRead r → next_of handle r heard ≡ Asks called → next_of handle r (with_told told heard) ≡ Gives count → told ≡ Answer (answer.Bytes count)
+    by_request : (r : Request) (told : Told) → IsRead r → next_of view r heard ≡ Asks called → next_of view r (with_told told heard) ≡ Gives count → told ≡ Answer (answer.Bytes count)
     by_request (request.Read name offset asked) told read asks gives = by_told told offset asked asks gives
     by_request (request.Put key content) told read asks gives = absurd read
     by_request request.Await told read asks gives = absurd read
@@ -197,3 +341,6 @@ gives_brought handle r heard called question last count asks gives =
     by_request (request.OpenRead name path) told read asks gives = absurd read
     by_request (request.Close name) told read asks gives = absurd read
     by_request (request.Delete key) told read asks gives = absurd read
+    by_request (request.MakeDir path) told read asks gives = absurd read
+    by_request (request.RemoveDir path) told read asks gives = absurd read
+    by_request (request.Unlink path) told read asks gives = absurd read

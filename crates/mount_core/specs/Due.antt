@@ -1,16 +1,18 @@
 -- What is due of a line, as code holds it.
-use Rattle.std.specs.Prelude.{◌≡◌, ℕ}
+use Rattle.std.specs.Prelude.{◌≡◌, ℕ, List}
 use Rattle.mount_model.specs.declared.event.Owner.{Owner}
 use Rattle.mount_model.specs.Heard.{question_of}
-use Rattle.mount_model.specs.Conversation.{Next, Asks, Replies, Opens, Gives, Waits}
+use Rattle.mount_model.specs.Conversation.{Next, Asks, Replies, Makes, Removes, Opens, Gives, Waits}
 use Rattle.mount_model.specs.Run.{asked_of}
 use Rattle.mount_core.specs.declared.due.Due.{Due}
 use Rattle.mount_core.specs.declared.due.Due.TheVariants as due
 
--- what may find no memory: a call, and a handle
+-- what may find no memory: a call, a handle, and a directory that is made
 abbrev pub MayLack : Next → Type 0
 MayLack (Asks called) = Unit {0}
 MayLack (Opens version) = Unit {0}
+MayLack (Makes key) = Unit {0}
+MayLack (Removes key) = ⊥
 MayLack (Replies said) = ⊥
 MayLack (Gives count) = ⊥
 MayLack Waits = ⊥
@@ -18,6 +20,8 @@ MayLack Waits = ⊥
 abbrev pub DueMeans : Due → Owner → Next → Type 0
 DueMeans (due.Call owner call asked question) expected next = (next ≡ Asks call) × (owner ≡ expected)
 DueMeans (due.Reply said) expected next = next ≡ Replies said
+DueMeans (due.MakeDir key) expected next = next ≡ Makes key
+DueMeans due.RemoveDir expected next = (key : List ℕ) × (next ≡ Removes key)
 DueMeans (due.Open version) expected next = next ≡ Opens version
 DueMeans due.Data expected next = (count : ℕ) × (next ≡ Gives count)
 DueMeans due.Nothing expected next = next ≡ Waits
@@ -27,6 +31,8 @@ DueMeans due.NoMemory expected next = MayLack next
 abbrev pub DueTells : Due → Type 0
 DueTells (due.Call owner call asked question) = (asked ≡ asked_of call) × (question ≡ question_of call)
 DueTells (due.Reply said) = Unit {0}
+DueTells (due.MakeDir key) = Unit {0}
+DueTells due.RemoveDir = Unit {0}
 DueTells (due.Open version) = Unit {0}
 DueTells due.Data = Unit {0}
 DueTells due.Nothing = Unit {0}

@@ -1,7 +1,7 @@
 pub mod Core
 pub mod Due
-pub mod Handles
 pub mod Journal
 pub mod Rising
 pub mod Room
+pub mod Shared
 pub mod Turn

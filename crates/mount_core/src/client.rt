@@ -11,6 +11,7 @@ use bucket_model::{Answer, Call};
 use bytes::Bytes;
 use job_table::Asker;
 use mount_model::{Record, Reply, Script, told_by};
+use mp_types::Opts;
 use std::alloc::{AllocError, Global};
 use std::marker::Model;
 
@@ -43,14 +44,15 @@ fn bytes_of(answer: Answer) -> Bytes
 impl Core {
     ghost use Rattle.mount_core.specs.Core.{Advances, state_of};
 
-    /// A mount that has done nothing, for a script whose line numbers rise.
-    pub fn new(alloc: Global, script: Script) -> Result<Self, AllocError>
+    /// A mount with these options that has done nothing, for a script whose line numbers rise.
+    pub fn new(alloc: Global, script: Script, options: Opts) -> Result<Self, AllocError>
         requires { AreRising 0 script }
+        ensures options { IfOk result (λ core. core.options ≡ options) }
         ensures script { IfOk result (λ core. core.script ≡ script) }
         ensures steps { IfOk result (λ core. core.steps ≡ []) }
     {
         Ok(Core {
-            work: Work::start(alloc, script)?,
+            work: Work::start(alloc, script, options)?,
         })
     }
 
@@ -65,7 +67,7 @@ impl Core {
     pub fn startable_at(&self, i: usize) -> Option<u32>
         ensures value { result ≡ slice_get (startable (state_of self.now).lines) i }
         ensures rising { AreRising 0 self.now.script }
-        ensures run { IsRunSoFar self.now.script self.now.steps }
+        ensures run { IsRunSoFar self.now.options self.now.script self.now.steps }
     {
         self.work.lines.startable_at(i)
     }
@@ -123,7 +125,7 @@ impl Core {
     pub fn record(&self) -> &Record
         ensures steps { result.now.steps ≡ self.now.steps }
         ensures rising { AreRising 0 self.now.script }
-        ensures run { IsRunSoFar self.now.script self.now.steps }
+        ensures run { IsRunSoFar self.now.options self.now.script self.now.steps }
     {
         self.work.record.record()
     }

@@ -1,15 +1,16 @@
 ghost use Rattle.std.specs.Prelude.{◌≡◌, ◌<◌, ◌≤◌, length, IfOk, option_copied};
 ghost use Rattle.mp_types.specs.Content.{bytes_of};
 ghost use Rattle.bucket_model.specs.declared.call.Call.TheVariants.{Delete, Get, Head, Probe, Put};
-ghost use Rattle.mount_model.specs.Conversation.{Asks, Opens, next_of};
+ghost use Rattle.mount_model.specs.Conversation.{Asks, Makes, Opens, next_of};
 ghost use Rattle.mount_model.specs.Handles.{owner_for};
 ghost use Rattle.mount_plan.specs.Meant.{with_last};
+ghost use Rattle.mount_plan.specs.Seen.{view_of};
 ghost use Rattle.mount_core.specs.Due.{DueMeans, DueTells};
 
 use bucket_model::Call;
 use bytes::Bytes;
 use mount_model::{AskedCall, Handle, Heard, Owner, Reply, Request, Told, Version};
-use mount_plan::{Plan, plan};
+use mount_plan::{Plan, View, plan};
 use mp_rules::Question;
 use mp_types::{Data, ETag, Key, KeyFault};
 use std::alloc::{AllocError, Global};
@@ -25,13 +26,17 @@ pub enum Due {
         question: Option<Question>,
     },
     Reply(Reply),
+    /// The directory of this key.
+    MakeDir(Key),
+    /// The directory of its path goes. That takes no memory, so no key is copied.
+    RemoveDir,
     /// A handle on this version.
     Open(Version),
     /// The bytes that the last answer brought, or none.
     Data,
     /// It waits for other lines.
     Nothing,
-    /// A call or a handle is due, and there is no memory for it.
+    /// A call, a handle or a directory is due, and there is no memory for it.
     NoMemory,
 }
 
@@ -48,13 +53,22 @@ fn key_of(alloc: Global, text: &str) -> Result<Key, AllocError>
     }
 }
 
+fn two_keys(alloc: Global, text: &str) -> Result<(Key, Key), AllocError>
+    requires not_empty { 0 < length text.now }
+    requires short { length text.now ≤ 1024 }
+    ensures { IfOk result (λ keys. (keys.0 ≡ text.now) × (keys.1 ≡ text.now)) }
+{
+    let key = key_of(alloc, text)?;
+    let told = key.copy(alloc)?;
+    Ok((key, told))
+}
+
 fn three_keys(alloc: Global, text: &str) -> Result<(Key, Key, Key), AllocError>
     requires not_empty { 0 < length text.now }
     requires short { length text.now ≤ 1024 }
     ensures { IfOk result (λ keys. (keys.0 ≡ text.now) × (keys.1 ≡ text.now) × (keys.2 ≡ text.now)) }
 {
-    let key = key_of(alloc, text)?;
-    let told = key.copy(alloc)?;
+    let (key, told) = two_keys(alloc, text)?;
     let asked = key.copy(alloc)?;
     Ok((key, told, asked))
 }
@@ -124,11 +138,13 @@ fn get(alloc: Global, owner: Owner, version: &Version, from: u64, to: u64) -> Du
     }
 }
 
-fn delete(alloc: Global, owner: Owner, key: &Key) -> Due
-    ensures means { DueMeans result owner (Asks (Delete key.now)) }
+fn delete(alloc: Global, owner: Owner, text: &str) -> Due
+    requires not_empty { 0 < length text.now }
+    requires short { length text.now ≤ 1024 }
+    ensures means { DueMeans result owner (Asks (Delete text.now)) }
     ensures tells { DueTells result }
 {
-    match copy_twice(alloc, key) {
+    match two_keys(alloc, text) {
         Ok((key, told)) => Due::Call {
             owner,
             call: Call::Delete { key },
@@ -174,10 +190,22 @@ fn put(alloc: Global, owner: Owner, key: &Key, content: &Data) -> Due
     }
 }
 
-fn open(alloc: Global, owner: Owner, text: &str, etag: ETag, size: u64) -> Due
+fn make_dir(alloc: Global, text: &str) -> Due
     requires not_empty { 0 < length text.now }
     requires short { length text.now ≤ 1024 }
-    ensures means { DueMeans result owner (Opens (record { key = text.now; etag = etag; size = size })) }
+    ensures means { (owner : Owner) → DueMeans result owner (Makes text.now) }
+    ensures tells { DueTells result }
+{
+    match key_of(alloc, text) {
+        Ok(key) => Due::MakeDir(key),
+        Err(_) => Due::NoMemory,
+    }
+}
+
+fn open(alloc: Global, text: &str, etag: ETag, size: u64) -> Due
+    requires not_empty { 0 < length text.now }
+    requires short { length text.now ≤ 1024 }
+    ensures means { (owner : Owner) → DueMeans result owner (Opens (record { key = text.now; etag = etag; size = size })) }
     ensures tells { DueTells result }
 {
     match key_of(alloc, text) {
@@ -199,27 +227,30 @@ fn owner_of(line: u32, request: &Request, handle: Option<&Handle>) -> Owner
     }
 }
 
-/// What is due of a line by its request, the live handle that it names, and what it has heard of its own calls,
-/// the last answer apart.
+/// What is due of a line by what it sees of the mount, its request, and what it has heard of its own calls, the last
+/// answer apart.
 pub fn due_of(
     alloc: Global,
     line: u32,
-    handle: Option<&Handle>,
+    view: View,
     request: &Request,
     heard: &Heard,
     last: Option<&Told>,
 ) -> Due
-    ensures means { DueMeans result (owner_for line request.now (option_copied handle.entry)) (next_of (option_copied handle.entry) request.now (with_last (option_copied last.entry) heard.now)) }
+    ensures means { DueMeans result (owner_for line request.now (view_of view.entry).handle) (next_of (view_of view.entry) request.now (with_last (option_copied last.entry) heard.now)) }
     ensures tells { DueTells result }
 {
-    let owner = owner_of(line, request, handle);
-    match plan(handle, request, heard, last) {
+    let owner = owner_of(line, request, view.handle);
+    match plan(view, request, heard, last) {
         Plan::Probe(key) => probe(alloc, owner, key),
         Plan::Head(key) => head(alloc, owner, key),
         Plan::Get { version, from, to } => get(alloc, owner, version, from, to),
-        Plan::Delete(key) => delete(alloc, owner, key),
+        Plan::Delete(key) => delete(alloc, owner, key.as_str()),
+        Plan::Unlink(key) => delete(alloc, owner, key),
         Plan::Put { key, content } => put(alloc, owner, key, content),
-        Plan::Open { key, etag, size } => open(alloc, owner, key, etag, size),
+        Plan::MakeDir(key) => make_dir(alloc, key),
+        Plan::RemoveDir(_) => Due::RemoveDir,
+        Plan::Open { key, etag, size } => open(alloc, key, etag, size),
         Plan::Give { .. } => Due::Data,
         Plan::Reply(reply) => Due::Reply(reply),
         Plan::Wait => Due::Nothing,

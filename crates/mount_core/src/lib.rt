@@ -4,8 +4,8 @@
 
 mod client;
 mod due;
-mod handles;
 mod journal;
+mod seen;
 mod turn;
 mod work;
 

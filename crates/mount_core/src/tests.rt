@@ -3,7 +3,7 @@ ghost use Rattle.mount_model.specs.Run.{AreRising};
 
 use crate::Core;
 use mount_model::{Line, Reply, Request, Script};
-use mp_types::{Items, Text};
+use mp_types::{Items, Opts, Text};
 use std::alloc::{AllocError, Global};
 use std::test::Fail;
 
@@ -41,7 +41,7 @@ fn begin(core: &mut Core, line: u32) -> Result<(), Fail> {
 
 #[test]
 fn a_reply_is_found_by_its_lines_number(rt: HostRuntime) -> Result<(), Fail> {
-    let mut core = Core::new(rt.alloc(), script(rt.alloc())?)?;
+    let mut core = Core::new(rt.alloc(), script(rt.alloc())?, Opts::default())?;
     assert!(rt; core.reply(3).is_none());
     begin(&mut core, 3)?;
     assert!(rt; matches!(core.reply(3), Some(Reply::Directory)));

@@ -1,26 +1,27 @@
 ghost use Rattle.std.specs.Prelude.{◌≡◌, ◌≢◌, ◌+◌, ◌<◌, ◌≤◌, List, [], ◌∷◌, ◌++◌, map, max, true, Option, Some, None, IfOk, option_copied};
+ghost use Rattle.std.specs.FinSet.{len};
 ghost use Rattle.mount_model.specs.declared.event.Event.TheVariants.{Begin, Take, Done};
 ghost use Rattle.mount_model.specs.declared.standing.Phase.TheVariants.{Begun};
 ghost use Rattle.mount_model.specs.Heard.{nothing_heard};
 ghost use Rattle.mount_model.specs.Step.{step_of, HasStep};
-ghost use Rattle.mount_model.specs.State.{opening, change_line, next_at};
-ghost use Rattle.mount_model.specs.Run.{AreRising, startable, is_among, owner_at};
-ghost use Rattle.mount_model.specs.Handles.{Opened};
+ghost use Rattle.mount_model.specs.State.{opening, change_line, shared_at_first};
+ghost use Rattle.mount_model.specs.Run.{AreRising, startable, is_among};
 ghost use Rattle.line_table.specs.Table.{HasBegun};
 ghost use Rattle.job_table.specs.LiveJobs.{Held, held_at, with_taken, without, IsReadyIn, IsOutIn};
 ghost use Rattle.mount_core.specs.Due.{DueMeans, DueTells};
-ghost use Rattle.mount_core.specs.Handles.{Keeps};
 ghost use Rattle.mount_core.specs.Journal.{all_known};
 ghost use Rattle.mount_core.specs.Rising.{AreRising-prop};
 ghost use Rattle.mount_core.specs.Room.{owes_lines, owes_jobs};
 
 use crate::due::{Due, due_of};
-use crate::handles::Handles;
 use crate::journal::Journal;
 use bucket_model::{Brief, Call};
 use job_table::{Asker, Jobs};
 use line_table::Lines;
-use mount_model::{Answered, Event, Phase, Reply, Script, Told};
+use local_names::Locals;
+use mount_model::{Answered, Event, Handle, Phase, Reply, Script, Told};
+use mp_handles::Handles;
+use mp_types::Opts;
 use std::alloc::{AllocError, Global};
 
 /// The parts of the mount. The record has room for all that lines and jobs still owe it, and a place for the reply
@@ -30,7 +31,11 @@ pub struct Work {
     pub lines: Lines,
     pub jobs: Jobs,
     pub record: Journal,
-    pub handles: Handles,
+    pub options: Opts,
+    /// The live handles, by the process that opened each and the name that it gave.
+    pub handles: Handles<Handle>,
+    /// The mount's own names.
+    pub names: Locals,
     pub time: u64,
     /// How many items lines and jobs still owe the record.
     pub owed: usize,
@@ -38,20 +43,22 @@ pub struct Work {
     ghost counted: { owes_lines lines + owes_jobs jobs.held ≤ owed },
     ghost enough: { owed ≤ record.room },
     ghost knows: { all_known record.known (map (λ s. s.line) lines) ≡ true },
+    ghost no_files: { len names.files ≡ 0 },
     ghost rising: { AreRising 0 (map (λ s. s.line) lines) } by { AreRising-prop 0 (map (λ s. s.line) lines) },
 }
 
 impl Work {
-    ghost use Rattle.mount_core.specs.Turn.{Answers, heard_last};
+    ghost use Rattle.mount_core.specs.Shared.{shared_in};
+    ghost use Rattle.mount_core.specs.Turn.{Answers, next_behind, owner_behind};
 
     /// Nothing has begun. Room for the begin and the reply of each line is made here.
-    pub fn start(alloc: Global, script: Script) -> Result<Self, AllocError>
+    pub fn start(alloc: Global, script: Script, options: Opts) -> Result<Self, AllocError>
         requires { AreRising 0 script }
-        ensures lines { IfOk result (λ work. work.lines ≡ (opening script).lines) }
+        ensures lines { IfOk result (λ work. work.lines ≡ (opening options script).lines) }
         ensures jobs { IfOk result (λ work. (work.jobs.count ≡ 0) × (work.jobs.held ≡ [])) }
         ensures steps { IfOk result (λ work. work.record.steps ≡ []) }
         ensures time { IfOk result (λ work. work.time ≡ 0) }
-        ensures handles { IfOk result (λ work. Keeps work.handles []) }
+        ensures shared { IfOk result (λ work. shared_in work ≡ shared_at_first options) }
     {
         let Some(owed) = script.len().checked_mul(2) else {
             return Err(AllocError);
@@ -63,7 +70,9 @@ impl Work {
             lines,
             jobs: Jobs::new(alloc),
             record,
+            options,
             handles: Handles::new(alloc),
+            names: Locals::new(alloc),
             time: 0,
             owed,
             alloc,
@@ -77,7 +86,7 @@ impl Work {
         ensures steps { self.new.record.steps ≡ self.old.record.steps ++ step_of (Begin line (max self.old.time time)) ∷ [] }
         ensures lines { self.new.lines ≡ change_line line (λ phase. Begun nothing_heard) self.old.lines }
         ensures jobs { self.new.jobs ≡ self.old.jobs }
-        ensures handles { self.new.handles ≡ self.old.handles }
+        ensures shared { shared_in self.new ≡ shared_in self.old }
     {
         let time = self.time.max(time);
         self.time = time;
@@ -95,7 +104,7 @@ impl Work {
         ensures lines { self.new.lines ≡ self.old.lines }
         ensures count { self.new.jobs.count ≡ self.old.jobs.count }
         ensures held { self.new.jobs.held ≡ with_taken job self.old.jobs.held }
-        ensures handles { self.new.handles ≡ self.old.handles }
+        ensures shared { shared_in self.new ≡ shared_in self.old }
     {
         let time = self.time.max(time);
         self.time = time;
@@ -114,7 +123,7 @@ impl Work {
         ensures lines { self.new.lines ≡ self.old.lines }
         ensures count { self.new.jobs.count ≡ self.old.jobs.count }
         ensures held { self.new.jobs.held ≡ without job self.old.jobs.held }
-        ensures handles { self.new.handles ≡ self.old.handles }
+        ensures shared { shared_in self.new ≡ shared_in self.old }
     {
         self.record.event(Event::Done {
             job,
@@ -131,7 +140,7 @@ impl Work {
         requires begun { HasBegun line self.old.lines }
         requires step { HasStep self.old.record.steps }
         ensures answers { Answers (record { line = line; reply = reply } ∷ []) self.old self.new }
-        ensures handles { self.new.handles ≡ self.old.handles }
+        ensures shared { shared_in self.new ≡ shared_in self.old }
     {
         self.record.reply(Answered { line, reply });
         self.lines.reply(line);
@@ -141,7 +150,7 @@ impl Work {
     /// What is due of a line that has begun, behind what it has heard so far and this last answer.
     pub fn due(&self, line: u32, last: Option<&Told>) -> Due
         requires { HasBegun line self.now.lines }
-        ensures means { (handles : List Opened) → Keeps self.now.handles handles → DueMeans result (owner_at handles line (change_line line (heard_last (option_copied last.entry)) self.now.lines)) (next_at handles line (change_line line (heard_last (option_copied last.entry)) self.now.lines)) }
+        ensures means { DueMeans result (owner_behind line (option_copied last.entry) self.now) (next_behind line (option_copied last.entry) self.now) }
         ensures tells { DueTells result }
     {
         let Some(standing) = self.lines.standing(line) else {
@@ -151,7 +160,7 @@ impl Work {
             Phase::Begun(heard) => due_of(
                 self.alloc,
                 line,
-                self.handles.named(&standing.line),
+                self.view(&standing.line),
                 &standing.line.request,
                 heard,
                 last,

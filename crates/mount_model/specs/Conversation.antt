@@ -1,14 +1,17 @@
--- What a line does next, by the handle that it names and what it has heard of its own calls so far.
-use Rattle.std.specs.Prelude.{ℕ, ◌+◌, List, [], ◌∷◌, ◌++◌, min, ◌||◌, ◌==◌, nat_le, if◌then◌else◌, Option, Some, None, Result, Ok, Err}
+-- What a line does next, by what it sees of the mount and what it has heard of its own calls so far.
+use Rattle.std.specs.Prelude.{ℕ, ◌+◌, List, [], ◌∷◌, ◌++◌, min, Bool, ◌||◌, ◌==◌, nat_le, if◌then◌else◌, Option, Some, None, Result, Ok, Err}
 use Rattle.mp_types.specs.declared.errno.Errno.{Errno}
-use Rattle.mp_types.specs.declared.errno.Errno.TheVariants.{Eio, Ebadf, Enomem, Enoent, Eisdir, Einval, Enametoolong, Estale}
+use Rattle.mp_types.specs.declared.errno.Errno.TheVariants.{Eperm, Eio, Ebadf, Enomem, Enoent, Eexist, Eisdir, Enotdir, Einval, Emfile, Enametoolong, Enotempty, Estale}
 use Rattle.mp_types.specs.declared.path.PathFault.{PathFault}
 use Rattle.mp_types.specs.declared.path.PathFault.TheVariants as fault
 use Rattle.mp_types.specs.Content.{bytes_of}
 use Rattle.mp_types.specs.Path.{path_of, joined}
 use Rattle.mp_rules.specs.declared.entry.Entry.{Entry}
-use Rattle.mp_rules.specs.declared.entry.Entry.TheVariants.{Directory, File, Nothing}
-use Rattle.mp_rules.specs.Walk.{Decision, Need, Is, Refused, fact_in, stands_at}
+use Rattle.mp_rules.specs.declared.entry.Entry.TheVariants.{RemoteDir, LocalDir, File, Nothing}
+use Rattle.mp_rules.specs.Walk.{Decision, Need, Is, Refused, fact_in, walk}
+use Rattle.mp_rules.specs.Local.{LocalNames, local_at, has_name_below}
+use Rattle.mp_types.specs.declared.options.Opts.{Opts}
+use Rattle.mp_types.specs.HandleName.{max_handles}
 use Rattle.bucket_model.specs.declared.call.Call.{Call}
 use Rattle.bucket_model.specs.declared.call.Call.TheVariants as call
 use Rattle.bucket_model.specs.declared.answer.Brief.{Brief}
@@ -18,18 +21,28 @@ use Rattle.mount_model.specs.Heard.{call_of}
 use Rattle.mount_model.specs.declared.handle.Handle.{Handle}
 use Rattle.mount_model.specs.declared.handle.Version.{Version}
 use Rattle.mount_model.specs.declared.request.Request.{Request}
-use Rattle.mount_model.specs.declared.request.Request.TheVariants.{Put, Await, Stat, OpenRead, Read, Close, Delete}
+use Rattle.mount_model.specs.declared.request.Request.TheVariants.{Put, Await, Stat, OpenRead, Read, Close, Delete, MakeDir, RemoveDir, Unlink}
 use Rattle.mount_model.specs.declared.request.Reply.{Reply}
 use Rattle.mount_model.specs.declared.request.Reply.TheVariants as reply
 
--- A line asks one call at a time, replies, opens a handle on a version, gives the bytes of its last answer,
--- or waits for other lines.
+-- A line asks one call at a time, replies, makes or removes the directory of a key, opens a handle on a version, gives
+-- the bytes of its last answer, or waits for other lines.
 pub data Next : Type 0 where
   Asks : Call → Next
   Replies : Reply → Next
+  Makes : List ℕ → Next
+  Removes : List ℕ → Next
   Opens : Version → Next
   Gives : ℕ → Next
   Waits : Next
+
+-- what a line sees of the mount: its options, the handle that it names where that is live, how many handles are live,
+-- and the mount's own names
+pub record View : Type 0 where
+  pub options : Opts
+  pub handle : Option Handle
+  pub live : ℕ
+  pub names : LocalNames
 
 abbrev pub fails : Errno → Next
 fails errno = Replies (reply.Failed errno)
@@ -64,27 +77,70 @@ at_path at (Need question) [] = Asks (call_of question)
 at_path at (Is entry) [] = at entry
 at_path at (Refused errno) [] = fails errno
 
+-- the root needs no walk
+abbrev pub along : View → Next → (Entry → Next) → List (List ℕ) → Heard → Next
+along view root at [] heard = root
+along view root at (name ∷ names) heard = at_path at (walk (fact_in heard.facts) (local_at view.names) name names) heard.answers
+
 abbrev pub stat_at : Entry → Next
-stat_at Directory = Replies reply.Directory
+stat_at RemoteDir = Replies reply.Directory
+stat_at LocalDir = Replies reply.Directory
 stat_at (File etag size) = Replies (reply.File size)
 stat_at Nothing = fails Enoent
 
--- what stands at a path: a faulty path and the root need no call
-abbrev pub stat_next : Result (List (List ℕ)) PathFault → Heard → Next
-stat_next (Err why) heard = fails (errno_of_path why)
-stat_next (Ok names) heard = at_path stat_at (stands_at (fact_in heard.facts) names) heard.answers
+-- what stands at a path; a faulty one needs no call
+abbrev pub stat_next : View → Result (List (List ℕ)) PathFault → Heard → Next
+stat_next view (Err why) heard = fails (errno_of_path why)
+stat_next view (Ok names) heard = along view (Replies reply.Directory) stat_at names heard
 
--- a file is opened as its Head found it
-abbrev pub open_at : List ℕ → Entry → Next
-open_at key Directory = fails Eisdir
-open_at key (File etag size) = Opens (record { key = key; etag = etag; size = size })
-open_at key Nothing = fails Enoent
+-- a file is opened as its Head found it, while fewer than the most handles are live
+abbrev pub open_at : ℕ → List ℕ → Entry → Next
+open_at live key RemoteDir = fails Eisdir
+open_at live key LocalDir = fails Eisdir
+open_at live key (File etag size) = if live == max_handles then fails Emfile else Opens (record { key = key; etag = etag; size = size })
+open_at live key Nothing = fails Enoent
 
 -- an open for reading: behind the path's own faults, the handle's name has to be free
-abbrev pub open_next : Option Handle → Result (List (List ℕ)) PathFault → Heard → Next
-open_next live (Err why) heard = fails (errno_of_path why)
-open_next (Some handle) (Ok names) heard = fails Einval
-open_next None (Ok names) heard = at_path (open_at (joined names)) (stands_at (fact_in heard.facts) names) heard.answers
+abbrev pub open_next : View → Option Handle → Result (List (List ℕ)) PathFault → Heard → Next
+open_next view handle (Err why) heard = fails (errno_of_path why)
+open_next view (Some handle) (Ok names) heard = fails Einval
+open_next view None (Ok names) heard = along view (fails Eisdir) (open_at view.live (joined names)) names heard
+
+abbrev pub make_at : List ℕ → Entry → Next
+make_at key Nothing = Makes key
+make_at key entry = fails Eexist
+
+-- a new directory, where nothing stands
+abbrev pub make_next : View → Result (List (List ℕ)) PathFault → Heard → Next
+make_next view (Err why) heard = fails (errno_of_path why)
+make_next view (Ok names) heard = along view (fails Eexist) (make_at (joined names)) names heard
+
+-- a directory of the bucket isn't empty
+abbrev pub remove_at : LocalNames → List ℕ → Entry → Next
+remove_at names key RemoteDir = fails Enotempty
+remove_at names key LocalDir = if has_name_below names key then fails Enotempty else Removes key
+remove_at names key (File etag size) = fails Enotdir
+remove_at names key Nothing = fails Enoent
+
+-- a directory of the mount's own goes where no name lies below it
+abbrev pub remove_next : View → Result (List (List ℕ)) PathFault → Heard → Next
+remove_next view (Err why) heard = fails (errno_of_path why)
+remove_next view (Ok names) heard = along view (fails Eperm) (remove_at view.names (joined names)) names heard
+
+abbrev pub unlink_at : Bool → List ℕ → Entry → Next
+unlink_at may_delete key RemoteDir = fails Eisdir
+unlink_at may_delete key LocalDir = fails Eisdir
+unlink_at may_delete key (File etag size) = if may_delete then Asks (call.Delete key) else fails Eperm
+unlink_at may_delete key Nothing = fails Enoent
+
+-- a file goes by one call, where the options allow it; then the walk isn't done again
+abbrev pub unlink_next : View → Result (List (List ℕ)) PathFault → Heard → Next
+unlink_next view (Err why) heard = fails (errno_of_path why)
+unlink_next view (Ok names) heard = by_answers heard.answers
+  where
+    by_answers : List Brief → Next
+    by_answers (Gone ∷ answers) = Replies reply.Success
+    by_answers answers = along view (fails Eisdir) (unlink_at view.options.allow_delete (joined names)) names heard
 
 -- a range of at least one byte, from its start to before its end
 pub record Range : Type 0 where
@@ -113,12 +169,15 @@ abbrev pub close_next : Option Handle → Next
 close_next None = fails Ebadf
 close_next (Some handle) = Replies reply.Success
 
--- what a line does next, where the handle that it names, if it names one, is this
-abbrev pub next_of : Option Handle → Request → Heard → Next
-next_of handle (Put key content) heard = put_next key (bytes_of content) heard.answers
-next_of handle Await heard = Waits
-next_of handle (Stat path) heard = stat_next (path_of path) heard
-next_of handle (OpenRead name path) heard = open_next handle (path_of path) heard
-next_of handle (Read name offset count) heard = read_next handle offset count heard.answers
-next_of handle (Close name) heard = close_next handle
-next_of handle (Delete key) heard = delete_next key heard.answers
+-- what a line does next, by what it sees of the mount
+abbrev pub next_of : View → Request → Heard → Next
+next_of view (Put key content) heard = put_next key (bytes_of content) heard.answers
+next_of view Await heard = Waits
+next_of view (Stat path) heard = stat_next view (path_of path) heard
+next_of view (OpenRead name path) heard = open_next view view.handle (path_of path) heard
+next_of view (Read name offset count) heard = read_next view.handle offset count heard.answers
+next_of view (Close name) heard = close_next view.handle
+next_of view (Delete key) heard = delete_next key heard.answers
+next_of view (MakeDir path) heard = make_next view (path_of path) heard
+next_of view (RemoveDir path) heard = remove_next view (path_of path) heard
+next_of view (Unlink path) heard = unlink_next view (path_of path) heard

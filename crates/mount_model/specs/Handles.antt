@@ -1,30 +1,17 @@
 -- The handles that processes hold open.
-use Rattle.std.specs.Prelude.{ℕ, List, [], ◌∷◌, ◌++◌, find, filter, Bool, not, ◌&&◌, ◌==◌, Option, Some, None, option_map}
+use Rattle.std.specs.Prelude.{ℕ, Option, Some, None}
+use Rattle.std.specs.FinMap as table
+use Rattle.mp_types.specs.HandleName.{name_cmp}
 use Rattle.mount_model.specs.declared.handle.Handle.{Handle}
 use Rattle.mount_model.specs.declared.request.Request.{Request}
-use Rattle.mount_model.specs.declared.request.Request.TheVariants.{Put, Await, Stat, OpenRead, Read, Close, Delete}
+use Rattle.mount_model.specs.declared.request.Request.TheVariants.{Put, Await, Stat, OpenRead, Read, Close, Delete, MakeDir, RemoveDir, Unlink}
 use Rattle.mount_model.specs.declared.request.Line.{Line}
 use Rattle.mount_model.specs.declared.event.Owner.{Owner}
 use Rattle.mount_model.specs.declared.event.Owner.TheVariants as owner
 
--- a handle that is live, under the process that opened it and the name that it gave
-pub record Opened : Type 0 where
-  pub actor : ℕ
-  pub name : ℕ
-  pub handle : Handle
-
-abbrev pub is_named : ℕ → ℕ → Opened → Bool
-is_named actor name opened = opened.actor == actor && opened.name == name
-
--- the live handle of this process and name
-abbrev pub handle_at : ℕ → ℕ → List Opened → Option Handle
-handle_at actor name handles = option_map (λ o. o.handle) (find (is_named actor name) handles)
-
-abbrev pub with_handle : ℕ → ℕ → Handle → List Opened → List Opened
-with_handle actor name handle handles = handles ++ record { actor = actor; name = name; handle = handle } ∷ []
-
-abbrev pub without_handle : ℕ → ℕ → List Opened → List Opened
-without_handle actor name handles = filter (λ o. not (is_named actor name o)) handles
+-- the live handles, each under the process that opened it and the name that it gave
+abbrev pub Handles : Type 0
+Handles = table.FinMap name_cmp Handle
 
 -- the name that a request gives for a handle of its process
 abbrev pub name_in : Request → Option ℕ
@@ -35,13 +22,16 @@ name_in (OpenRead name path) = Some name
 name_in (Read name offset count) = Some name
 name_in (Close name) = Some name
 name_in (Delete key) = None
+name_in (MakeDir path) = None
+name_in (RemoveDir path) = None
+name_in (Unlink path) = None
 
-abbrev pub handle_named : ℕ → Option ℕ → List Opened → Option Handle
+abbrev pub handle_named : ℕ → Option ℕ → Handles → Option Handle
 handle_named actor None handles = None
-handle_named actor (Some name) handles = handle_at actor name handles
+handle_named actor (Some name) handles = table.get handles (actor, name)
 
 -- the handle that a line names, where it is live
-abbrev pub handle_of : Line → List Opened → Option Handle
+abbrev pub handle_of : Line → Handles → Option Handle
 handle_of line handles = handle_named line.actor (name_in line.request) handles
 
 -- whose jobs a line asks for: a read asks for the stream of its handle, and any other line for itself
@@ -54,3 +44,6 @@ owner_for number (Stat path) handle = owner.Line number
 owner_for number (OpenRead name path) handle = owner.Line number
 owner_for number (Close name) handle = owner.Line number
 owner_for number (Delete key) handle = owner.Line number
+owner_for number (MakeDir path) handle = owner.Line number
+owner_for number (RemoveDir path) handle = owner.Line number
+owner_for number (Unlink path) handle = owner.Line number

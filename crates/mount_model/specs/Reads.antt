@@ -1,6 +1,7 @@
 -- Which bytes a read gives: those of the version that its handle opened.
 use Rattle.std.specs.Prelude.{◌≡◌, ℕ, List, [], Option, Some, None}
 use Rattle.std.specs.List.{AllByRecursion}
+use Rattle.mp_types.specs.declared.options.Opts.{Opts}
 use Rattle.bucket_model.specs.Along.{Along}
 use Rattle.bucket_model.specs.Bucket.{ObjectVersion, slice_at}
 use Rattle.mount_model.specs.declared.handle.Handle.{Handle}
@@ -14,7 +15,7 @@ use Rattle.mount_model.specs.declared.event.Answered.{Answered}
 use Rattle.mount_model.specs.declared.standing.Standing.{Standing}
 use Rattle.mount_model.specs.Step.{Step}
 use Rattle.mount_model.specs.Conversation.{Range, range_in}
-use Rattle.mount_model.specs.Handles.{Opened, handle_of}
+use Rattle.mount_model.specs.Handles.{Handles, handle_of}
 use Rattle.mount_model.specs.State.{ClientState, opening, after, line_at}
 
 -- the bytes of this range of this version; no range has no bytes
@@ -36,8 +37,11 @@ IsDataFor versions (request.Stat path) handle bytes = ⊥
 IsDataFor versions (request.OpenRead name path) handle bytes = ⊥
 IsDataFor versions (request.Close name) handle bytes = ⊥
 IsDataFor versions (request.Delete key) handle bytes = ⊥
+IsDataFor versions (request.MakeDir path) handle bytes = ⊥
+IsDataFor versions (request.RemoveDir path) handle bytes = ⊥
+IsDataFor versions (request.Unlink path) handle bytes = ⊥
 
-abbrev pub IsDataAt : List ObjectVersion → List Opened → Option Standing → List ℕ → Type 0
+abbrev pub IsDataAt : List ObjectVersion → Handles → Option Standing → List ℕ → Type 0
 IsDataAt versions handles None bytes = ⊥
 IsDataAt versions handles (Some s) bytes = IsDataFor versions s.line.request (handle_of s.line handles) bytes
 
@@ -46,7 +50,7 @@ abbrev pub IsReadReply : List ObjectVersion → ClientState → Answered → Typ
 IsReadReply versions state answered = by_reply answered.reply
   where
     by_reply : Reply → Type 0
-    by_reply (reply.Data bytes) = IsDataAt versions state.handles (line_at answered.line state.lines) bytes
+    by_reply (reply.Data bytes) = IsDataAt versions state.shared.handles (line_at answered.line state.lines) bytes
     by_reply (reply.Made etag) = Unit {0}
     by_reply reply.Success = Unit {0}
     by_reply reply.Directory = Unit {0}
@@ -70,5 +74,5 @@ GivesOnly bytes answered = by_reply answered.reply
     by_reply (reply.Failed errno) = Unit {0}
 
 -- each read in these steps gives bytes of the version that its handle opened
-abbrev pub AreReads : List ObjectVersion → List Line → List Step → Type 0
-AreReads versions script steps = Along (λ state (step : Step). AllByRecursion (IsReadReply versions state) step.replies) after (opening script) steps
+abbrev pub AreReads : List ObjectVersion → Opts → List Line → List Step → Type 0
+AreReads versions options script steps = Along (λ state (step : Step). AllByRecursion (IsReadReply versions state) step.replies) after (opening options script) steps

@@ -2,6 +2,7 @@
 use Rattle.std.specs.Prelude.{◌≡◌, ℕ, ◌+◌, ◌<◌, ◌≤◌, List, [], ◌∷◌, ◌++◌, length, Bool, true, false, ◌==◌, if◌then◌else◌, Option, Some, None, ◌⊎◌}
 use Rattle.std.specs.List.{list_any, AllByRecursion}
 use Rattle.mp_types.specs.declared.errno.Errno.TheVariants.{Enomem}
+use Rattle.mp_types.specs.declared.options.Opts.{Opts}
 use Rattle.bucket_model.specs.declared.call.Call.{Call}
 use Rattle.bucket_model.specs.declared.call.Call.TheVariants as call
 use Rattle.bucket_model.specs.declared.answer.Brief.{Brief}
@@ -24,9 +25,9 @@ use Rattle.mount_model.specs.declared.standing.Phase.{Phase}
 use Rattle.mount_model.specs.declared.standing.Phase.TheVariants.{Waiting, Begun, Replied}
 use Rattle.mount_model.specs.declared.standing.Standing.{Standing}
 use Rattle.mount_model.specs.Step.{Step}
-use Rattle.mount_model.specs.State.{ClientState, Job, JobPhase, Ready, Out, Gone, opening, after, state_after, line_at, job_at, lines_at, line_of, next_at, with_replies}
-use Rattle.mount_model.specs.Conversation.{Next, Asks, Replies, Opens, Gives, Waits}
-use Rattle.mount_model.specs.Handles.{Opened, handle_of, owner_for}
+use Rattle.mount_model.specs.State.{Shared, ClientState, Job, JobPhase, Ready, Out, Gone, opening, after, state_after, line_at, job_at, lines_at, line_of, next_at, with_replies}
+use Rattle.mount_model.specs.Conversation.{Next, Asks, Replies, Makes, Removes, Opens, Gives, Waits}
+use Rattle.mount_model.specs.Handles.{handle_of, owner_for}
 
 -- which lines may begin
 
@@ -90,20 +91,20 @@ pub data Turn : Type 0 where
   TurnOf : ℕ → Owner → Next → Turn
   NoTurn : Turn
 
-abbrev pub owner_at : List Opened → ℕ → List Standing → Owner
-owner_at handles number lines = by_line (line_at number lines)
+abbrev pub owner_at : Shared → ℕ → List Standing → Owner
+owner_at shared number lines = by_line (line_at number lines)
   where
     by_line : Option Standing → Owner
     by_line None = owner.Line number
-    by_line (Some s) = owner_for number s.line.request (handle_of s.line handles)
+    by_line (Some s) = owner_for number s.line.request (handle_of s.line shared.handles)
 
-abbrev pub turn_of : List Opened → Option ℕ → List Standing → Turn
-turn_of handles None lines = NoTurn
-turn_of handles (Some number) lines = TurnOf number (owner_at handles number lines) (next_at handles number lines)
+abbrev pub turn_of : Shared → Option ℕ → List Standing → Turn
+turn_of shared None lines = NoTurn
+turn_of shared (Some number) lines = TurnOf number (owner_at shared number lines) (next_at shared number lines)
 
 -- the line that begins, or the one whose job has its answer, with what it does behind the event
 abbrev pub turn_at : ClientState → Event → Turn
-turn_at state event = turn_of state.handles (line_of state.jobs event) (lines_at state.lines state.jobs event)
+turn_at state event = turn_of state.shared (line_of state.jobs event) (lines_at state.lines state.jobs event)
 
 abbrev pub AsksFor : ℕ → Owner → Call → List Ask → List Answered → Type 0
 AsksFor job owner called asks own = (asks ≡ record { job = job; owner = owner; call = asked_of called } ∷ []) × (own ≡ [])
@@ -111,7 +112,7 @@ AsksFor job owner called asks own = (asks ≡ record { job = job; owner = owner;
 abbrev pub Says : ℕ → Reply → List Ask → List Answered → Type 0
 Says line said asks own = (asks ≡ []) × (own ≡ record { line = line; reply = said } ∷ [])
 
--- where a call is due, or a handle, and there is no memory for it, the line is answered so
+-- where a call is due, or a handle or a directory, and there is no memory for it, the line is answered so
 abbrev pub LacksMemory : ℕ → List Ask → List Answered → Type 0
 LacksMemory line asks own = Says line (reply.Failed Enomem) asks own
 
@@ -122,6 +123,8 @@ SaysData line count asks own = (bytes : List ℕ) × (length bytes ≡ count) ×
 abbrev pub TakesTurn : ℕ → Turn → List Ask → List Answered → Type 0
 TakesTurn job (TurnOf line owner (Asks called)) asks own = AsksFor job owner called asks own ⊎ LacksMemory line asks own
 TakesTurn job (TurnOf line owner (Replies said)) asks own = Says line said asks own
+TakesTurn job (TurnOf line owner (Makes key)) asks own = Says line reply.Success asks own ⊎ LacksMemory line asks own
+TakesTurn job (TurnOf line owner (Removes key)) asks own = Says line reply.Success asks own
 TakesTurn job (TurnOf line owner (Opens version)) asks own = Says line (reply.Open version.size) asks own ⊎ LacksMemory line asks own
 TakesTurn job (TurnOf line owner (Gives count)) asks own = SaysData line count asks own
 TakesTurn job (TurnOf line owner Waits) asks own = (asks ≡ []) × (own ≡ [])
@@ -145,6 +148,9 @@ due_awaits (s ∷ lines) = by_phase s.phase (due_awaits lines)
         by_request (request.Read name offset count) = []
         by_request (request.Close name) = []
         by_request (request.Delete key) = []
+        by_request (request.MakeDir path) = []
+        by_request (request.RemoveDir path) = []
+        by_request (request.Unlink path) = []
     by_phase Replied more = more
 
 -- The step may come in this state: its event may, and its asks and replies are those of the line whose turn it is,
@@ -157,17 +163,17 @@ pub record IsLegalStep (state : ClientState) (step : Step) : Type 0 where
   pub replies : step.replies ≡ own ++ due_awaits (with_replies (lines_at state.lines state.jobs step.event) own)
 
 -- each step is legal where it stands
-abbrev pub IsRunSoFar : List Line → List Step → Type 0
-IsRunSoFar script steps = Along IsLegalStep after (opening script) steps
+abbrev pub IsRunSoFar : Opts → List Line → List Step → Type 0
+IsRunSoFar options script steps = Along IsLegalStep after (opening options script) steps
 
 -- each line has its reply, and no job is ready or out
 pub record IsQuiet (state : ClientState) : Type 0 where
   pub answered : AllByRecursion (λ s. s.phase ≡ Replied) state.lines
   pub gone : AllByRecursion (λ job. job.phase ≡ Gone) state.jobs
 
-pub record IsRun (script : List Line) (steps : List Step) : Type 0 where
-  pub so_far : IsRunSoFar script steps
-  pub quiet : IsQuiet (state_after script steps)
+pub record IsRun (options : Opts) (script : List Line) (steps : List Step) : Type 0 where
+  pub so_far : IsRunSoFar options script steps
+  pub quiet : IsQuiet (state_after options script steps)
 
 -- a script's lines have rising numbers
 abbrev pub AreRising : ℕ → List Line → Type 0

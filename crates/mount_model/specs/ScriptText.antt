@@ -13,7 +13,7 @@ use Rattle.mount_model.specs.declared.fault.ScriptCause.TheVariants as cause
 use Rattle.mount_model.specs.declared.fault.What.{What}
 use Rattle.mount_model.specs.declared.fault.What.TheVariants.{Lines, Reads, Data as Stored}
 use Rattle.mount_model.specs.declared.request.Request.{Request}
-use Rattle.mount_model.specs.declared.request.Request.TheVariants.{Put, Await, Stat, OpenRead, Read, Close, Delete}
+use Rattle.mount_model.specs.declared.request.Request.TheVariants.{Put, Await, Stat, OpenRead, Read, Close, Delete, MakeDir, RemoveDir, Unlink}
 use Rattle.mount_model.specs.declared.request.Line.{Line}
 use Rattle.mount_model.specs.RecordText.{is_plain}
 
@@ -147,12 +147,6 @@ put_of (key ∷ content ∷ []) = do
   Ok (Put k c)
 put_of words = Err cause.Words
 
-abbrev pub stat_of : List (List ℕ) → Result Request ScriptCause
-stat_of (path ∷ []) = do
-  p ← text_of path
-  Ok (Stat p)
-stat_of words = Err cause.Words
-
 abbrev pub open_of : List (List ℕ) → Result Request ScriptCause
 open_of (handle ∷ path ∷ []) = do
   h ← handle_word handle
@@ -180,6 +174,31 @@ delete_of (key ∷ []) = do
   Ok (Delete k)
 delete_of words = Err cause.Words
 
+-- the path of a request that has no other words
+abbrev pub path_words : List (List ℕ) → Result (List ℕ) ScriptCause
+path_words (path ∷ []) = text_of path
+path_words words = Err cause.Words
+
+abbrev pub stat_of : List (List ℕ) → Result Request ScriptCause
+stat_of words = do
+  p ← path_words words
+  Ok (Stat p)
+
+abbrev pub make_of : List (List ℕ) → Result Request ScriptCause
+make_of words = do
+  p ← path_words words
+  Ok (MakeDir p)
+
+abbrev pub remove_of : List (List ℕ) → Result Request ScriptCause
+remove_of words = do
+  p ← path_words words
+  Ok (RemoveDir p)
+
+abbrev pub unlink_of : List (List ℕ) → Result Request ScriptCause
+unlink_of words = do
+  p ← path_words words
+  Ok (Unlink p)
+
 abbrev pub await_of : List (List ℕ) → Result Request ScriptCause
 await_of [] = Ok Await
 await_of words = Err cause.Words
@@ -199,7 +218,10 @@ asked_by_process verb words =
     if is_word verb (codes "stat") then stat_of words
     else (if is_word verb (codes "openr") then open_of words
     else (if is_word verb (codes "read") then read_of words
-    else (if is_word verb (codes "close") then close_of words else Err cause.Verb)))
+    else (if is_word verb (codes "close") then close_of words
+    else (if is_word verb (codes "mkdir") then make_of words
+    else (if is_word verb (codes "rmdir") then remove_of words
+    else (if is_word verb (codes "unlink") then unlink_of words else Err cause.Verb))))))
 
 -- processes ask, the others change the bucket, and all may wait
 abbrev pub request_of : ℕ → List ℕ → List (List ℕ) → Result Request ScriptCause
@@ -252,6 +274,9 @@ count_in (Stat path) = 0
 count_in (OpenRead name path) = 0
 count_in (Close name) = 0
 count_in (Delete key) = 0
+count_in (MakeDir path) = 0
+count_in (RemoveDir path) = 0
+count_in (Unlink path) = 0
 
 abbrev pub bytes_asked : List Line → ℕ
 bytes_asked [] = 0
@@ -266,6 +291,9 @@ given_in (Stat path) = 0
 given_in (OpenRead name path) = 0
 given_in (Close name) = 0
 given_in (Delete key) = 0
+given_in (MakeDir path) = 0
+given_in (RemoveDir path) = 0
+given_in (Unlink path) = 0
 
 abbrev pub bytes_given : List Line → ℕ
 bytes_given [] = 0

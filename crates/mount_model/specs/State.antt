@@ -1,5 +1,8 @@
 -- The state of the mount after some steps.
 use Rattle.std.specs.Prelude.{ℕ, List, [], ◌∷◌, ◌++◌, map, find, fold, ◌==◌, if◌then◌else◌, Option, Some, None, option_map}
+use Rattle.std.specs.FinMap as table
+use Rattle.mp_types.specs.declared.options.Opts.{Opts}
+use Rattle.mp_rules.specs.Local.{LocalNames, no_names, with_dir, without_name}
 use Rattle.mp_types.specs.Content.{bytes_of}
 use Rattle.bucket_model.specs.declared.call.Call.{Call}
 use Rattle.bucket_model.specs.declared.call.Call.TheVariants as call
@@ -22,8 +25,8 @@ use Rattle.mount_model.specs.declared.standing.Standing.{Standing}
 use Rattle.mount_model.specs.declared.standing.Told.{Told}
 use Rattle.mount_model.specs.Step.{Step}
 use Rattle.mount_model.specs.Heard.{nothing_heard, with_told, question_of, told_by}
-use Rattle.mount_model.specs.Conversation.{Next, Asks, Replies, Opens, Gives, Waits, next_of}
-use Rattle.mount_model.specs.Handles.{Opened, name_in, handle_of, with_handle, without_handle}
+use Rattle.mount_model.specs.Conversation.{Next, Asks, Replies, Makes, Removes, Opens, Gives, Waits, View, next_of}
+use Rattle.mount_model.specs.Handles.{Handles, name_in, handle_of}
 
 -- a job is ready once asked, out once taken, and gone once its answer came
 pub data JobPhase : Type 0 where
@@ -38,17 +41,26 @@ pub record Job : Type 0 where
   pub call : Call
   pub phase : JobPhase
 
--- the time, the lines and how far each has come, all jobs so far, the positions of the answers so far, and the live handles
+-- what all lines see of the mount: its options, the live handles, and the mount's own names
+pub record Shared : Type 0 where
+  pub options : Opts
+  pub handles : Handles
+  pub names : LocalNames
+
+-- the time, the lines and how far each has come, all jobs so far, the positions of the answers so far, and what all lines see
 pub record ClientState : Type 0 where
   pub time : ℕ
   pub lines : List Standing
   pub jobs : List Job
   pub positions : List ℕ
-  pub handles : List Opened
+  pub shared : Shared
+
+abbrev pub shared_at_first : Opts → Shared
+shared_at_first options = record { options = options; handles = table.empty; names = no_names }
 
 -- no line has begun
-abbrev pub opening : List Line → ClientState
-opening script = record { time = 0; lines = map (λ line. record { line = line; phase = Waiting }) script; jobs = []; positions = []; handles = [] }
+abbrev pub opening : Opts → List Line → ClientState
+opening options script = record { time = 0; lines = map (λ line. record { line = line; phase = Waiting }) script; jobs = []; positions = []; shared = shared_at_first options }
 
 -- looking up and changing by number
 
@@ -93,21 +105,24 @@ line_of jobs (Begin line time) = Some line
 line_of jobs (Take job time from) = None
 line_of jobs (Done job position answer) = option_map (λ (j : Job). j.line) (job_at job jobs)
 
+abbrev pub view_of : Shared → Line → View
+view_of shared line = record { options = shared.options; handle = handle_of line shared.handles; live = table.len shared.handles; names = shared.names }
+
 -- what a line does next, where it has begun and has no reply
-abbrev pub next_in : List Opened → Standing → Next
-next_in handles s = by_phase s.phase
+abbrev pub next_in : Shared → Standing → Next
+next_in shared s = by_phase s.phase
   where
     by_phase : Phase → Next
     by_phase Waiting = Waits
-    by_phase (Begun heard) = next_of (handle_of s.line handles) s.line.request heard
+    by_phase (Begun heard) = next_of (view_of shared s.line) s.line.request heard
     by_phase Replied = Waits
 
-abbrev pub next_at : List Opened → ℕ → List Standing → Next
-next_at handles number lines = by_line (line_at number lines)
+abbrev pub next_at : Shared → ℕ → List Standing → Next
+next_at shared number lines = by_line (line_at number lines)
   where
     by_line : Option Standing → Next
     by_line None = Waits
-    by_line (Some s) = next_in handles s
+    by_line (Some s) = next_in shared s
 
 abbrev pub with_answered : List Standing → Answered → List Standing
 with_answered lines reply = change_line reply.line (λ phase. Replied) lines
@@ -115,49 +130,64 @@ with_answered lines reply = change_line reply.line (λ phase. Replied) lines
 abbrev pub with_replies : List Standing → List Answered → List Standing
 with_replies lines replies = fold with_answered lines replies
 
--- What replies do to the handles: an open that succeeded adds the handle on the version that it found, and a close
--- that succeeded removes it. No other reply has an effect.
+-- What replies do to what all lines see. An open that succeeded adds the handle on the version that it found, and a close
+-- that succeeded removes it. A directory that was made is a name of the mount's own, and one that was removed is none.
+-- No other reply has an effect.
 
-abbrev pub opens : Next → Line → List Opened → List Opened
-opens (Opens version) line handles = by_name (name_in line.request)
+abbrev pub opens : Next → Line → Shared → Shared
+opens (Opens version) line shared = by_name (name_in line.request)
   where
-    by_name : Option ℕ → List Opened
-    by_name None = handles
-    by_name (Some name) = with_handle line.actor name (record { line = line.number; version = version }) handles
-opens (Asks called) line handles = handles
-opens (Replies said) line handles = handles
-opens (Gives count) line handles = handles
-opens Waits line handles = handles
+    by_name : Option ℕ → Shared
+    by_name None = shared
+    by_name (Some name) = record { options = shared.options; handles = table.insert shared.handles (line.actor, name) (record { line = line.number; version = version }); names = shared.names }
+opens (Asks called) line shared = shared
+opens (Replies said) line shared = shared
+opens (Makes key) line shared = shared
+opens (Removes key) line shared = shared
+opens (Gives count) line shared = shared
+opens Waits line shared = shared
 
-abbrev pub closes : Request → ℕ → List Opened → List Opened
-closes (request.Close name) actor handles = without_handle actor name handles
-closes (request.Put key content) actor handles = handles
-closes request.Await actor handles = handles
-closes (request.Stat path) actor handles = handles
-closes (request.OpenRead name path) actor handles = handles
-closes (request.Read name offset count) actor handles = handles
-closes (request.Delete key) actor handles = handles
+abbrev pub closes : Request → ℕ → Shared → Shared
+closes (request.Close name) actor shared = record { options = shared.options; handles = table.remove shared.handles (actor, name); names = shared.names }
+closes (request.Put key content) actor shared = shared
+closes request.Await actor shared = shared
+closes (request.Stat path) actor shared = shared
+closes (request.OpenRead name path) actor shared = shared
+closes (request.Read name offset count) actor shared = shared
+closes (request.Delete key) actor shared = shared
+closes (request.MakeDir path) actor shared = shared
+closes (request.RemoveDir path) actor shared = shared
+closes (request.Unlink path) actor shared = shared
 
-abbrev pub by_reply : Next → Line → Reply → List Opened → List Opened
-by_reply next line (reply.Open size) handles = opens next line handles
-by_reply next line reply.Success handles = closes line.request line.actor handles
-by_reply next line (reply.Made etag) handles = handles
-by_reply next line reply.Directory handles = handles
-by_reply next line (reply.File size) handles = handles
-by_reply next line (reply.Data bytes) handles = handles
-by_reply next line reply.Gone handles = handles
-by_reply next line (reply.Failed errno) handles = handles
+abbrev pub succeeds : Next → Line → Shared → Shared
+succeeds (Makes key) line shared = record { options = shared.options; handles = shared.handles; names = with_dir key shared.names }
+succeeds (Removes key) line shared = record { options = shared.options; handles = shared.handles; names = without_name key shared.names }
+succeeds (Replies said) line shared = closes line.request line.actor shared
+succeeds (Asks called) line shared = shared
+succeeds (Opens version) line shared = shared
+succeeds (Gives count) line shared = shared
+succeeds Waits line shared = shared
 
--- the handles after one reply, where these were live before the step, and the lines stood so behind its event
-abbrev pub with_effect : List Opened → List Standing → List Opened → Answered → List Opened
-with_effect before lines handles answered = by_line (line_at answered.line lines)
+abbrev pub by_reply : Next → Line → Reply → Shared → Shared
+by_reply next line (reply.Open size) shared = opens next line shared
+by_reply next line reply.Success shared = succeeds next line shared
+by_reply next line (reply.Made etag) shared = shared
+by_reply next line reply.Directory shared = shared
+by_reply next line (reply.File size) shared = shared
+by_reply next line (reply.Data bytes) shared = shared
+by_reply next line reply.Gone shared = shared
+by_reply next line (reply.Failed errno) shared = shared
+
+-- what is seen after one reply, where this was seen before the step, and the lines stood so behind its event
+abbrev pub with_effect : Shared → List Standing → Shared → Answered → Shared
+with_effect before lines shared answered = by_line (line_at answered.line lines)
   where
-    by_line : Option Standing → List Opened
-    by_line None = handles
-    by_line (Some s) = by_reply (next_in before s) s.line answered.reply handles
+    by_line : Option Standing → Shared
+    by_line None = shared
+    by_line (Some s) = by_reply (next_in before s) s.line answered.reply shared
 
-abbrev pub handles_after : List Opened → List Standing → List Answered → List Opened
-handles_after before lines replies = fold (with_effect before lines) before replies
+abbrev pub shared_after : Shared → List Standing → List Answered → Shared
+shared_after before lines replies = fold (with_effect before lines) before replies
 
 -- the bytes that a line gives to be stored
 abbrev pub content_in : Request → List ℕ
@@ -168,6 +198,9 @@ content_in (request.OpenRead name path) = []
 content_in (request.Read name offset count) = []
 content_in (request.Close name) = []
 content_in (request.Delete key) = []
+content_in (request.MakeDir path) = []
+content_in (request.RemoveDir path) = []
+content_in (request.Unlink path) = []
 
 abbrev pub content_of : Option Standing → List ℕ
 content_of None = []
@@ -205,9 +238,9 @@ after state step = record {
   lines = with_replies (lines_at state.lines state.jobs step.event) step.replies;
   jobs = jobs_at state.jobs step.event ++ jobs_asked state.lines (line_of state.jobs step.event) step.asks;
   positions = positions_after state.positions step.event;
-  handles = handles_after state.handles (lines_at state.lines state.jobs step.event) step.replies;
+  shared = shared_after state.shared (lines_at state.lines state.jobs step.event) step.replies;
 }
 
 -- the state after these steps of a run of the script
-abbrev pub state_after : List Line → List Step → ClientState
-state_after script steps = fold after (opening script) steps
+abbrev pub state_after : Opts → List Line → List Step → ClientState
+state_after options script steps = fold after (opening options script) steps

@@ -1,5 +1,6 @@
 -- How a record is tied to the bucket's history, call by call.
 use Rattle.std.specs.Prelude.{◌≡◌, ℕ, ◌<◌, ◌≤◌, List, length, slice_get, true, Some}
+use Rattle.mp_types.specs.declared.options.Opts.{Opts}
 use Rattle.bucket_model.specs.declared.call.Call.{Call}
 use Rattle.bucket_model.specs.declared.answer.Brief.{Brief}
 use Rattle.bucket_model.specs.declared.history.Logged.{Logged}
@@ -28,7 +29,7 @@ TiesEvent start log state (Done number position answer) = is_counted answer ≡ 
 
 -- The record's calls are those of the history from its opening length on. Beside them stand changes by others alone,
 -- and none at all where the store is alone.
-pub record IsTied (script : List Line) (start : ℕ) (is_alone : Type 0) (log : List Logged) (steps : List Step) : Type 0 where
-  pub each : Along (λ state (step : Step). TiesEvent start log state step.event) after (opening script) steps
-  pub others : (position : ℕ) (logged : Logged) → start ≤ position → slice_get log position ≡ Some logged → (IsChange logged.entry.call → ⊥) → is_among position (state_after script steps).positions ≡ true
-  pub alone : is_alone → (position : ℕ) → start ≤ position → position < length log → is_among position (state_after script steps).positions ≡ true
+pub record IsTied (options : Opts) (script : List Line) (start : ℕ) (is_alone : Type 0) (log : List Logged) (steps : List Step) : Type 0 where
+  pub each : Along (λ state (step : Step). TiesEvent start log state step.event) after (opening options script) steps
+  pub others : (position : ℕ) (logged : Logged) → start ≤ position → slice_get log position ≡ Some logged → (IsChange logged.entry.call → ⊥) → is_among position (state_after options script steps).positions ≡ true
+  pub alone : is_alone → (position : ℕ) → start ≤ position → position < length log → is_among position (state_after options script steps).positions ≡ true

@@ -34,6 +34,18 @@ pub enum Request {
     Delete {
         key: Key,
     },
+    /// Makes a directory of the mount's own.
+    MakeDir {
+        path: Text,
+    },
+    /// Removes a directory of the mount's own.
+    RemoveDir {
+        path: Text,
+    },
+    /// Deletes the file at a path.
+    Unlink {
+        path: Text,
+    },
 }
 
 /// The answer to a line.

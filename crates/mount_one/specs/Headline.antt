@@ -1,5 +1,6 @@
 -- What each status of a run promises.
 use Rattle.std.specs.Prelude.{◌≡◌, ℕ, ◌<◌, ◌≤◌, List, [], ◌∷◌, length, codes, Option, Some, None, Ok, Err, ◌⊎◌}
+use Rattle.mp_types.specs.Options.{default_options}
 use Rattle.bucket_model.specs.History.{History}
 use Rattle.mount_model.specs.declared.fault.What.{What}
 use Rattle.mount_model.specs.declared.fault.What.TheVariants.{Bytes, Lines, Reads, Data}
@@ -37,15 +38,15 @@ IsTooLong (Some bytes) Lines = SpellsNone (Some bytes) (text.TooLong Lines)
 IsTooLong (Some bytes) Reads = SpellsNone (Some bytes) (text.TooLong Reads)
 IsTooLong (Some bytes) Data = SpellsNone (Some bytes) (text.TooLong Data)
 
--- The steps are a run of the script that the input spells, tied call by call to the store's history from its
--- opening length on. Each read gives bytes of the version that its handle opened, and at most as many calls are
--- told to have failed as the store's count of faults rose by.
+-- The steps are a run of the script that the input spells, with the options that a mount has by default, tied call
+-- by call to the store's history from its opening length on. Each read gives bytes of the version that its handle
+-- opened, and at most as many calls are told to have failed as the store's count of faults rose by.
 pub record Serves (input : Option (List ℕ)) (start : ℕ) (is_alone : Type 0) (history : Option History) (faults_before faults_after : ℕ) (steps : List Step) : Type 0 where
   pub script : List Line
   pub spelled : Spells input script
-  pub run : IsRun script steps
-  pub tied : IsTiedTo history script start is_alone steps
-  pub reads : ReadsOver history script steps
+  pub run : IsRun default_options script steps
+  pub tied : IsTiedTo history default_options script start is_alone steps
+  pub reads : ReadsOver history default_options script steps
   pub faults : HasFewFaults faults_before faults_after steps
 
 -- What the sink holds is what it held, and then the text of the record of such a run.

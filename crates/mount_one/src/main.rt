@@ -7,6 +7,8 @@ ghost use Rattle.std.specs.IoError.{error_kind};
 ghost use Rattle.std.specs.declared.io.ErrorKind.TheVariants.{OutOfMemory};
 ghost use Rattle.mount_one.specs.Statuses.{IsUnread};
 
+#[cfg(test)]
+mod dir_tests;
 mod message;
 #[cfg(test)]
 mod path_tests;

@@ -16,7 +16,7 @@ use mp_driver::{Schedule, drive};
 use mp_io::{Clock, Sink, Source};
 use mp_record::{PrintFault, print_record};
 use mp_script::{ScriptError, read_script};
-use mp_types::Text;
+use mp_types::{Opts, Text};
 use std::alloc::Global;
 use store_trait::Store;
 
@@ -68,7 +68,7 @@ fn serve<K: Sink, T: Store, C: Clock>(
         ((sink.new ≡ sink.old) × (store.new ≡ store.old)) }
     ensures honest { T.is_honest store.old → T.is_honest store.new }
 {
-    let core = match Core::new(alloc, script) {
+    let core = match Core::new(alloc, script, Opts::default()) {
         Ok(core) => core,
         Err(_) => return Status::NoMemory,
     };

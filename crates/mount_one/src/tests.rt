@@ -63,7 +63,7 @@ pub fn run_over(
 }
 
 // The lines of a record that tell replies, each with its end.
-fn replies_in(alloc: Global, record: &[u8]) -> Result<Vec<u8>, Fail> {
+pub fn replies_in(alloc: Global, record: &[u8]) -> Result<Vec<u8>, Fail> {
     let mut replies = Vec::new(alloc);
     for line in record.split(|byte| *byte == b'\n') {
         if line.starts_with(b"R ") {
@@ -101,7 +101,7 @@ pub fn source_of(alloc: Global, text: &str) -> Result<MemSource, Fail> {
 }
 
 pub fn roomy_sink(alloc: Global) -> Result<MemSink, Fail> {
-    Ok(MemSink::new(alloc, 4096, 4096, Vec::new(alloc))?)
+    Ok(MemSink::new(alloc, 1_048_576, 4096, Vec::new(alloc))?)
 }
 
 #[test]

@@ -7,7 +7,3 @@ by_first P [] answer is holds = absurd (cc)
 by_first P (first ∷ others) answer is holds =
     let same : answer ≡ first = cc in
     subst (λ a. P (a ∷ others)) same (holds others)
-
-pub by_none : (P : List Brief → Type 0) (answers : List Brief) → None ≡ slice_get answers 0 → P [] → P answers
-by_none P [] is holds = holds
-by_none P (first ∷ others) is holds = absurd (cc)

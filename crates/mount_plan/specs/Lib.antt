@@ -1,3 +1,5 @@
+pub mod Gone
 pub mod Last
 pub mod Looked
 pub mod Meant
+pub mod Seen

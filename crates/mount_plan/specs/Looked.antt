@@ -1,26 +1,19 @@
--- What stands at the path of a request.
-use Rattle.std.specs.Prelude.{◌≡◌, ℕ, ◌<◌, List, [], length}
+-- What stands at the path of a request, given by what stands behind its first `/`.
+use Rattle.std.specs.Prelude.{◌≡◌, ℕ, ◌<◌, List, length}
 use Rattle.mp_types.specs.Path.{names_in}
-use Rattle.mp_rules.specs.declared.entry.Entry.{Entry}
-use Rattle.mp_rules.specs.declared.entry.Entry.TheVariants.{Directory, File, Nothing}
-use Rattle.mp_rules.specs.Walk.{Is, fact_in, stands_at}
+use Rattle.mp_rules.specs.declared.entry.Entry.{Entry as Stands}
 use Rattle.mount_model.specs.declared.standing.Heard.{Heard}
-use Rattle.mount_model.specs.Conversation.{Next, at_path}
+use Rattle.mount_model.specs.Conversation.{Next, View, along}
+use Rattle.mount_plan.specs.declared.lookup.Found.{Found}
+use Rattle.mount_plan.specs.declared.lookup.Found.TheVariants.{Root, Entry}
 use Rattle.mount_plan.specs.declared.planned.Plan.{Plan}
 use Rattle.mount_plan.specs.Meant.{Means}
 
--- no file stands at the root
-abbrev pub HasKey : Entry → List ℕ → Type 0
-HasKey Directory key = Unit {0}
-HasKey (File etag size) key = 0 < length key
-HasKey Nothing key = Unit {0}
-
--- no call failed, and the line's own facts say that this stands there
-pub record Stands (path : List ℕ) (heard : Heard) (entry : Entry) : Type 0 where
-  pub clean : heard.answers ≡ []
-  pub at : stands_at (fact_in heard.facts) (names_in path) ≡ Is entry
-  pub key : HasKey entry path
+-- whatever the request, it goes by this
+abbrev pub IsFound : List ℕ → View → Heard → Found → Type 0
+IsFound below view heard Root = (root : Next) (at : Stands → Next) → along view root at (names_in below) heard ≡ root
+IsFound below view heard (Entry entry) = (0 < length below) × ((root : Next) (at : Stands → Next) → along view root at (names_in below) heard ≡ at entry)
 
 -- whatever the request, it isn't told yet, or can't be
-abbrev pub IsShort : List ℕ → Heard → Plan → Type 0
-IsShort path heard plan = (at : Entry → Next) → Means plan (at_path at (stands_at (fact_in heard.facts) (names_in path)) heard.answers)
+abbrev pub IsShort : List ℕ → View → Heard → Plan → Type 0
+IsShort below view heard plan = (root : Next) (at : Stands → Next) → Means plan (along view root at (names_in below) heard)

@@ -1,4 +1,4 @@
-//! What a line of a script does next, from its request, the handle that it names and what it has heard of its own
+//! What a line of a script does next, from its request, what it sees of the mount and what it has heard of its own
 //! calls.
 //! Nothing here takes memory: the keys asked about are parts of the path's own text.
 //! No jobs, records or stores stand here.
@@ -8,15 +8,20 @@ mod answered;
 mod close;
 mod delete;
 mod lookup;
+mod make;
 mod next;
 mod open;
 mod planned;
 mod put;
 mod read;
+mod remove;
 mod stat;
+mod unlink;
+mod view;
 
 pub use next::plan;
 pub use planned::Plan;
+pub use view::View;
 
 #[cfg(test)]
 mod tests;

@@ -23,8 +23,14 @@ pub enum Plan<'a> {
     },
     /// It deletes the object at the key.
     Delete(&'a Key),
+    /// It deletes the object at this key, of 1 to 1,024 bytes.
+    Unlink(&'a str),
     /// It is done.
     Reply(Reply),
+    /// It makes the directory of this key, of 1 to 1,024 bytes, a name of the mount's own.
+    MakeDir(&'a str),
+    /// It gives up the mount's own directory of this key, of 1 to 1,024 bytes.
+    RemoveDir(&'a str),
     /// It opens its handle on this version of the object at the key, of 1 to 1,024 bytes. `size` counts bytes.
     Open {
         key: &'a str,

@@ -2,10 +2,11 @@ ghost use Rattle.std.specs.Prelude.{◌≡◌, option_copied};
 ghost use Rattle.mp_types.specs.Path.{path_of};
 ghost use Rattle.mount_model.specs.Conversation.{Replies, stat_at, stat_next};
 ghost use Rattle.mount_plan.specs.Meant.{Means, with_last};
+ghost use Rattle.mount_plan.specs.Seen.{view_of};
 
-use crate::Plan;
-use crate::lookup::{look_up, path_errno};
+use crate::lookup::{Found, look_up, path_errno};
 use crate::planned::failed;
+use crate::{Plan, View};
 use mount_model::{Heard, Reply, Told};
 use mp_rules::Entry;
 use mp_types::{Errno, below_root};
@@ -14,21 +15,22 @@ fn stat_reply(entry: Entry) -> Reply
     ensures { stat_at entry ≡ Replies result }
 {
     match entry {
-        Entry::Directory => Reply::Directory,
+        Entry::RemoteDir | Entry::LocalDir => Reply::Directory,
         Entry::File { size, .. } => Reply::File { size },
         Entry::Nothing => Reply::Failed(Errno::Enoent),
     }
 }
 
-pub fn stat_plan<'a>(path: &'a str, heard: &Heard, last: Option<&Told>) -> Plan<'a>
-    ensures { Means result (stat_next (path_of path.now) (with_last (option_copied last.entry) heard.now)) }
+pub fn stat_plan<'a>(path: &'a str, view: &View<'_>, heard: &Heard, last: Option<&Told>) -> Plan<'a>
+    ensures { Means result (stat_next (view_of view.now) (path_of path.now) (with_last (option_copied last.entry) heard.now)) }
 {
-    let path = match below_root(path) {
+    let below = match below_root(path) {
         Ok(below) => below,
         Err(why) => return failed(path_errno(why)),
     };
-    match look_up(path, heard, last) {
-        Ok(entry) => Plan::Reply(stat_reply(entry)),
+    match look_up(below, view, heard, last) {
+        Ok(Found::Root) => Plan::Reply(Reply::Directory),
+        Ok(Found::Entry(entry)) => Plan::Reply(stat_reply(entry)),
         Err(plan) => plan,
     }
 }

@@ -1,5 +1,6 @@
 -- What holds between two turns of the driver.
 use Rattle.std.proofs.Common.{◌≡◌, ◌≢◌, ℕ, ◌<◌, ◌≤◌, true, false, List, ◌++◌, length, Option, Some, None, ◌⊎◌}
+use Rattle.mp_types.specs.declared.options.Opts.{Opts}
 use Rattle.std.specs.List.{slice_get, AllByRecursion}
 use Rattle.bucket_model.specs.declared.call.Call.{Call}
 use Rattle.bucket_model.specs.declared.answer.Brief.{Brief}
@@ -68,19 +69,19 @@ abbrev pub IsPlaced : List HeldAnswer → List ℕ → ℕ → Type 0
 IsPlaced held positions position = (is_among position positions ≡ true) ⊎ IsHeldAt held position
 
 -- The record is tied to the history, save that the entries of held answers are not in the record yet.
-pub record IsTiedSoFar (script : List Line) (start : ℕ) (is_alone : Type 0) (log : List Logged) (held : List HeldAnswer) (steps : List Step) (positions : List ℕ) : Type 0 where
-  pub each : Along (λ state (step : Step). TiesEvent start log state step.event) after (opening script) steps
+pub record IsTiedSoFar (options : Opts) (script : List Line) (start : ℕ) (is_alone : Type 0) (log : List Logged) (held : List HeldAnswer) (steps : List Step) (positions : List ℕ) : Type 0 where
+  pub each : Along (λ state (step : Step). TiesEvent start log state step.event) after (opening options script) steps
   pub others : (position : ℕ) (logged : Logged) → start ≤ position → slice_get log position ≡ Some logged → (IsChange logged.entry.call → ⊥) → IsPlaced held positions position
   pub alone : is_alone → (position : ℕ) → start ≤ position → position < length log → IsPlaced held positions position
 
-abbrev pub IsTiedToSoFar : Option History → List Line → ℕ → Type 0 → List HeldAnswer → List Step → List ℕ → Type 0
-IsTiedToSoFar None script start is_alone held steps positions = Unit {0}
-IsTiedToSoFar (Some told) script start is_alone held steps positions = IsTiedSoFar script start is_alone told.log held steps positions
+abbrev pub IsTiedToSoFar : Option History → Opts → List Line → ℕ → Type 0 → List HeldAnswer → List Step → List ℕ → Type 0
+IsTiedToSoFar None options script start is_alone held steps positions = Unit {0}
+IsTiedToSoFar (Some told) options script start is_alone held steps positions = IsTiedSoFar options script start is_alone told.log held steps positions
 
 -- Each job that is out has its answer held, each answer has its own place before the store's position, and the
 -- record is tied and reads so far.
-pub record IsBetween (told : Option History) (position start : ℕ) (is_alone : Type 0) (held : List HeldAnswer) (script : List Line) (steps : List Step) (state : ClientState) : Type 0 where
-  pub so_far : IsRunSoFar script steps
+pub record IsBetween (told : Option History) (position start : ℕ) (is_alone : Type 0) (held : List HeldAnswer) (options : Opts) (script : List Line) (steps : List Step) (state : ClientState) : Type 0 where
+  pub so_far : IsRunSoFar options script steps
   pub grown : start ≤ position
   pub known : AllByRecursion (IsKnown held) state.jobs
   pub owed : (job : ℕ) (got : HeldAnswer) → answer_for job held ≡ Some got → IsOwed told state.jobs got
@@ -88,9 +89,9 @@ pub record IsBetween (told : Option History) (position start : ℕ) (is_alone : 
   pub below : (job : ℕ) (got : HeldAnswer) → answer_for job held ≡ Some got → is_counted (brief_of got.answer) ≡ true → got.position < position
   pub fresh : (job : ℕ) (got : HeldAnswer) → answer_for job held ≡ Some got → is_counted (brief_of got.answer) ≡ true → is_among got.position state.positions ≡ false
   pub apart : (i j : ℕ) (one other : HeldAnswer) → answer_for i held ≡ Some one → answer_for j held ≡ Some other → i ≢ j → is_counted (brief_of one.answer) ≡ true → is_counted (brief_of other.answer) ≡ true → one.position ≢ other.position
-  pub tied : IsTiedToSoFar told script start is_alone held steps state.positions
-  pub reads : AreRising 0 script → ReadsOver told script steps
+  pub tied : IsTiedToSoFar told options script start is_alone held steps state.positions
+  pub reads : AreRising 0 script → ReadsOver told options script steps
 
 -- the same of a core
 abbrev pub IsAtTurn : Option History → ℕ → ℕ → Type 0 → List HeldAnswer → CoreState → Type 0
-IsAtTurn told position start is_alone held core = IsBetween told position start is_alone held core.script core.steps (state_of core)
+IsAtTurn told position start is_alone held core = IsBetween told position start is_alone held core.options core.script core.steps (state_of core)

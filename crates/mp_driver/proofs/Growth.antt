@@ -1,5 +1,6 @@
 -- What a longer history leaves as it was.
 use Rattle.std.proofs.Common.{◌≡◌, ℕ, Bool, true, false, List, [], ◌∷◌, ◌++◌, Option, Some, None, sym, subst, append-nil, append_assoc, length-append}
+use Rattle.mp_types.specs.declared.options.Opts.{Opts}
 use Rattle.bucket_model.specs.declared.call.Call.{Call}
 use Rattle.bucket_model.specs.declared.answer.Answer.{Answer}
 use Rattle.bucket_model.specs.declared.answer.Brief.{Brief}
@@ -72,11 +73,11 @@ slice-more None (Some now) called said grows brings = absurd grows
 slice-more (Some was) None called said grows brings = absurd grows
 slice-more (Some was) (Some now) called said grows brings = subst (λ (versions : List ObjectVersion). IsSlice versions called said) (sym grows.versions.1) (IsSlice-more was.versions grows.versions.0 called said brings)
 
-pub reads-more : (was now : Option History) (script : List Line) (steps : List Step) → Grows was now → ReadsOver was script steps → ReadsOver now script steps
-reads-more None None script steps grows reads = tt
-reads-more None (Some now) script steps grows reads = absurd grows
-reads-more (Some was) None script steps grows reads = absurd grows
-reads-more (Some was) (Some now) script steps grows reads = subst (λ (versions : List ObjectVersion). AreReads versions script steps) (sym grows.versions.1) (AreReads-more was.versions grows.versions.0 script steps reads)
+pub reads-more : (was now : Option History) (options : Opts) (script : List Line) (steps : List Step) → Grows was now → ReadsOver was options script steps → ReadsOver now options script steps
+reads-more None None options script steps grows reads = tt
+reads-more None (Some now) options script steps grows reads = absurd grows
+reads-more (Some was) None options script steps grows reads = absurd grows
+reads-more (Some was) (Some now) options script steps grows reads = subst (λ (versions : List ObjectVersion). AreReads versions options script steps) (sym grows.versions.1) (AreReads-more was.versions grows.versions.0 options script steps reads)
 
 -- a held answer is owed, also where the history is longer and the jobs' list another one
 pub owed-more : (was now : Option History) (old new : List Job) (got : HeldAnswer) → Grows was now → ((job : Job) → job_at got.job old ≡ Some job → job_at got.job new ≡ Some job) → IsOwed was old got → IsOwed now new got

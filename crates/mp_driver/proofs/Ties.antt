@@ -1,5 +1,6 @@
 -- A record stays tied when steps and entries are added and answers are held.
 use Rattle.std.proofs.Common.{◌≡◌, ◌≢◌, ℕ, zero, suc, ◌+◌, ◌-◌, ◌<◌, ◌≤◌, ◌==◌, Bool, true, false, if◌then◌else◌, List, [], ◌∷◌, ◌++◌, length, Option, Some, None, refl, sym, ap, ◌∙◌, subst, inl, inr, ◌⊎◌, arith, length-append, append-nil, eq-eqb, eqb-true}
+use Rattle.mp_types.specs.declared.options.Opts.{Opts}
 use Rattle.std.specs.List.{slice_get, Contains}
 use Rattle.std.proofs.lemmas.Option.{slice_get_within, get_or_from_slice_get, slice_get_past}
 use Rattle.std.proofs.lemmas.List.Elements.{Contains-append_right}
@@ -89,15 +90,15 @@ below_or_at : (p n : ℕ) → p < n + 1 → (p < n) ⊎ (p ≡ n)
 below_or_at p n h = elim (cases_lt p n) [ inl less ↦ inl less | inr not_less ↦ inr (omega arith) ]
 
 -- a call was made: its answer is held, and its entry stands among the new ones
-called : (b : Bool) (script : List Line) (start : ℕ) (is_alone alone_then : Type 0) (was now : History) (asked : Call) (got : HeldAnswer) (less more : List HeldAnswer) (steps : List Step) (positions : List ℕ) →
+called : (b : Bool) (options : Opts) (script : List Line) (start : ℕ) (is_alone alone_then : Type 0) (was now : History) (asked : Call) (got : HeldAnswer) (less more : List HeldAnswer) (steps : List Step) (positions : List ℕ) →
     is_counted (brief_of got.answer) ≡ b →
     (is_alone → alone_then) →
     AddsFor b alone_then asked got.position (brief_of got.answer) was now →
     IsWith got less more →
-    IsTiedSoFar script start is_alone was.log less steps positions →
-    IsTiedSoFar script start is_alone now.log more steps positions
-called true script start is_alone alone_then was now asked got less more steps positions counted alone adds with tied = subst (λ (log : List Logged). IsTiedSoFar script start is_alone log more steps positions) (sym adds.log) (record {
-  each = Along-more (λ state (step : Step). TiesEvent start was.log state step.event) (λ state (step : Step). TiesEvent start (was.log ++ entries) state step.event) after (λ state step. TiesEvent-more start was.log entries state step.event) (opening script) steps tied.each;
+    IsTiedSoFar options script start is_alone was.log less steps positions →
+    IsTiedSoFar options script start is_alone now.log more steps positions
+called true options script start is_alone alone_then was now asked got less more steps positions counted alone adds with tied = subst (λ (log : List Logged). IsTiedSoFar options script start is_alone log more steps positions) (sym adds.log) (record {
+  each = Along-more (λ state (step : Step). TiesEvent start was.log state step.event) (λ state (step : Step). TiesEvent start (was.log ++ entries) state step.event) after (λ state step. TiesEvent-more start was.log entries state step.event) (opening options script) steps tied.each;
   others = λ p logged above stands fixed. elim (slice_get-where was.log entries p logged stands) [
     | inl here ↦ placed-more got less more positions p with (tied.others p logged above here fixed)
     | inr there ↦
@@ -119,8 +120,8 @@ called true script start is_alone alone_then was now asked got less more steps p
 
     own : (p : ℕ) → got.position ≡ p → IsPlaced more positions p
     own p at = inr (record { got = got; stands = with.own; counted = counted; at = at })
-called false script start is_alone alone_then was now asked got less more steps positions counted alone adds with tied = subst (λ (log : List Logged). IsTiedSoFar script start is_alone log more steps positions) (sym adds.log) (record {
-  each = Along-more (λ state (step : Step). TiesEvent start was.log state step.event) (λ state (step : Step). TiesEvent start (was.log ++ adds.others) state step.event) after (λ state step. TiesEvent-more start was.log adds.others state step.event) (opening script) steps tied.each;
+called false options script start is_alone alone_then was now asked got less more steps positions counted alone adds with tied = subst (λ (log : List Logged). IsTiedSoFar options script start is_alone log more steps positions) (sym adds.log) (record {
+  each = Along-more (λ state (step : Step). TiesEvent start was.log state step.event) (λ state (step : Step). TiesEvent start (was.log ++ adds.others) state step.event) after (λ state step. TiesEvent-more start was.log adds.others state step.event) (opening options script) steps tied.each;
   others = λ p logged above stands fixed. elim (slice_get-where was.log adds.others p logged stands) [
     | inl here ↦ placed-more got less more positions p with (tied.others p logged above here fixed)
     | inr there ↦ absurd (fixed (adds.by_others logged (Contains-from_slice_get adds.others (p - length was.log) logged there.1)))
@@ -131,16 +132,16 @@ called false script start is_alone alone_then was now asked got less more steps 
 })
 
 -- one step more, which leaves the history and what is held
-one_more : (script : List Line) (start : ℕ) (is_alone : Type 0) (log : List Logged) (held : List HeldAnswer) (steps : List Step) (step : Step) (positions : List ℕ) → TiesEvent start log (state_after script steps) step.event → IsTiedSoFar script start is_alone log held steps positions → IsTiedSoFar script start is_alone log held (steps ++ step ∷ []) positions
-one_more script start is_alone log held steps step positions ties tied = record {
-  each = Along-push (λ state (step : Step). TiesEvent start log state step.event) after (opening script) steps step tied.each ties;
+one_more : (options : Opts) (script : List Line) (start : ℕ) (is_alone : Type 0) (log : List Logged) (held : List HeldAnswer) (steps : List Step) (step : Step) (positions : List ℕ) → TiesEvent start log (state_after options script steps) step.event → IsTiedSoFar options script start is_alone log held steps positions → IsTiedSoFar options script start is_alone log held (steps ++ step ∷ []) positions
+one_more options script start is_alone log held steps step positions ties tied = record {
+  each = Along-push (λ state (step : Step). TiesEvent start log state step.event) after (opening options script) steps step tied.each ties;
   others = tied.others;
   alone = tied.alone;
 }
 
 -- an answer is handed in
-handed : (script : List Line) (start : ℕ) (is_alone : Type 0) (log : List Logged) (got : HeldAnswer) (less more : List HeldAnswer) (steps : List Step) (number : ℕ) (positions : List ℕ) → IsWith got less more → IsTiedSoFar script start is_alone log more steps positions → IsTiedSoFar script start is_alone log less steps (positions_after positions (Done number got.position (brief_of got.answer)))
-handed script start is_alone log got less more steps number positions with tied = record {
+handed : (options : Opts) (script : List Line) (start : ℕ) (is_alone : Type 0) (log : List Logged) (got : HeldAnswer) (less more : List HeldAnswer) (steps : List Step) (number : ℕ) (positions : List ℕ) → IsWith got less more → IsTiedSoFar options script start is_alone log more steps positions → IsTiedSoFar options script start is_alone log less steps (positions_after positions (Done number got.position (brief_of got.answer)))
+handed options script start is_alone log got less more steps number positions with tied = record {
   each = tied.each;
   others = λ p logged above stands fixed. placed-done got less more positions number p with (tied.others p logged above stands fixed);
   alone = λ is p above below. placed-done got less more positions number p with (tied.alone is p above below);
@@ -148,53 +149,53 @@ handed script start is_alone log got less more steps number positions with tied 
 
 -- the same, as far as the store tells its history
 
-pub tied-begun : (told : Option History) (script : List Line) (start : ℕ) (is_alone : Type 0) (held : List HeldAnswer) (steps : List Step) (step : Step) (positions : List ℕ) (line time : ℕ) → step.event ≡ Begin line time → IsTiedToSoFar told script start is_alone held steps positions → IsTiedToSoFar told script start is_alone held (steps ++ step ∷ []) positions
-tied-begun None script start is_alone held steps step positions line time is tied = tt
-tied-begun (Some told) script start is_alone held steps step positions line time is tied = one_more script start is_alone told.log held steps step positions (rw is tt) tied
+pub tied-begun : (told : Option History) (options : Opts) (script : List Line) (start : ℕ) (is_alone : Type 0) (held : List HeldAnswer) (steps : List Step) (step : Step) (positions : List ℕ) (line time : ℕ) → step.event ≡ Begin line time → IsTiedToSoFar told options script start is_alone held steps positions → IsTiedToSoFar told options script start is_alone held (steps ++ step ∷ []) positions
+tied-begun None options script start is_alone held steps step positions line time is tied = tt
+tied-begun (Some told) options script start is_alone held steps step positions line time is tied = one_more options script start is_alone told.log held steps step positions (rw is tt) tied
 
-pub tied-taken : (was now : Option History) (script : List Line) (start : ℕ) (is_alone alone_then : Type 0) (asked : Call) (got : HeldAnswer) (less more : List HeldAnswer) (steps : List Step) (step : Step) (positions : List ℕ) (time from : ℕ) →
+pub tied-taken : (was now : Option History) (options : Opts) (script : List Line) (start : ℕ) (is_alone alone_then : Type 0) (asked : Call) (got : HeldAnswer) (less more : List HeldAnswer) (steps : List Step) (step : Step) (positions : List ℕ) (time from : ℕ) →
     step.event ≡ Take got.job time from →
     start ≤ from →
     (is_alone → alone_then) →
     Tells alone_then asked got.position (brief_of got.answer) was now →
     IsWith got less more →
-    IsTiedToSoFar was script start is_alone less steps positions →
-    IsTiedToSoFar now script start is_alone more (steps ++ step ∷ []) positions
-tied-taken None None script start is_alone alone_then asked got less more steps step positions time from is above alone tells with tied = tt
-tied-taken None (Some now) script start is_alone alone_then asked got less more steps step positions time from is above alone tells with tied = absurd tells
-tied-taken (Some was) None script start is_alone alone_then asked got less more steps step positions time from is above alone tells with tied = absurd tells
-tied-taken (Some was) (Some now) script start is_alone alone_then asked got less more steps step positions time from is above alone tells with tied =
-    one_more script start is_alone now.log more steps step positions (rw is above) (called (is_counted (brief_of got.answer)) script start is_alone alone_then was now asked got less more steps positions refl alone tells with tied)
+    IsTiedToSoFar was options script start is_alone less steps positions →
+    IsTiedToSoFar now options script start is_alone more (steps ++ step ∷ []) positions
+tied-taken None None options script start is_alone alone_then asked got less more steps step positions time from is above alone tells with tied = tt
+tied-taken None (Some now) options script start is_alone alone_then asked got less more steps step positions time from is above alone tells with tied = absurd tells
+tied-taken (Some was) None options script start is_alone alone_then asked got less more steps step positions time from is above alone tells with tied = absurd tells
+tied-taken (Some was) (Some now) options script start is_alone alone_then asked got less more steps step positions time from is above alone tells with tied =
+    one_more options script start is_alone now.log more steps step positions (rw is above) (called (is_counted (brief_of got.answer)) options script start is_alone alone_then was now asked got less more steps positions refl alone tells with tied)
 
-pub tied-done : (told : Option History) (script : List Line) (start : ℕ) (is_alone : Type 0) (got : HeldAnswer) (less more : List HeldAnswer) (steps : List Step) (step : Step) (positions : List ℕ) →
+pub tied-done : (told : Option History) (options : Opts) (script : List Line) (start : ℕ) (is_alone : Type 0) (got : HeldAnswer) (less more : List HeldAnswer) (steps : List Step) (step : Step) (positions : List ℕ) →
     step.event ≡ Done got.job got.position (brief_of got.answer) →
-    (is_counted (brief_of got.answer) ≡ true → (job : Job) → job_at got.job (state_after script steps).jobs ≡ Some job → HasToldEntry told got.position job.call (brief_of got.answer)) →
+    (is_counted (brief_of got.answer) ≡ true → (job : Job) → job_at got.job (state_after options script steps).jobs ≡ Some job → HasToldEntry told got.position job.call (brief_of got.answer)) →
     IsWith got less more →
-    IsTiedToSoFar told script start is_alone more steps positions →
-    IsTiedToSoFar told script start is_alone less (steps ++ step ∷ []) (positions_after positions (Done got.job got.position (brief_of got.answer)))
-tied-done None script start is_alone got less more steps step positions is entry with tied = tt
-tied-done (Some told) script start is_alone got less more steps step positions is entry with tied =
+    IsTiedToSoFar told options script start is_alone more steps positions →
+    IsTiedToSoFar told options script start is_alone less (steps ++ step ∷ []) (positions_after positions (Done got.job got.position (brief_of got.answer)))
+tied-done None options script start is_alone got less more steps step positions is entry with tied = tt
+tied-done (Some told) options script start is_alone got less more steps step positions is entry with tied =
     let after_it : List ℕ = positions_after positions (Done got.job got.position (brief_of got.answer)) in
-    one_more script start is_alone told.log less steps step after_it (subst (TiesEvent start told.log (state_after script steps)) (sym is) entry) (handed script start is_alone told.log got less more steps got.job positions with tied)
+    one_more options script start is_alone told.log less steps step after_it (subst (TiesEvent start told.log (state_after options script steps)) (sym is) entry) (handed options script start is_alone told.log got less more steps got.job positions with tied)
 
 -- nothing has happened, and nothing stands behind the opening length
 
-start_tied : (script : List Line) (is_alone : Type 0) (log : List Logged) → IsTiedSoFar script (length log) is_alone log [] [] []
-start_tied script is_alone log = record {
+start_tied : (options : Opts) (script : List Line) (is_alone : Type 0) (log : List Logged) → IsTiedSoFar options script (length log) is_alone log [] [] []
+start_tied options script is_alone log = record {
   each = tt;
   others = λ p logged above stands fixed. let past : slice_get log p ≡ None = slice_get_past log p above in absurd (cc);
   alone = λ is p above below. absurd (omega arith);
 }
 
-pub tied-start : (told : Option History) (script : List Line) (start : ℕ) (is_alone : Type 0) → ((history : History) → told ≡ Some history → start ≡ length history.log) → IsTiedToSoFar told script start is_alone [] [] []
-tied-start None script start is_alone length_is = tt
-tied-start (Some told) script start is_alone length_is = rw (length_is told refl) (start_tied script is_alone told.log)
+pub tied-start : (told : Option History) (options : Opts) (script : List Line) (start : ℕ) (is_alone : Type 0) → ((history : History) → told ≡ Some history → start ≡ length history.log) → IsTiedToSoFar told options script start is_alone [] [] []
+tied-start None options script start is_alone length_is = tt
+tied-start (Some told) options script start is_alone length_is = rw (length_is told refl) (start_tied options script is_alone told.log)
 
 -- all answers are handed in
-pub tied-end : (told : Option History) (script : List Line) (start : ℕ) (is_alone : Type 0) (steps : List Step) → IsTiedToSoFar told script start is_alone [] steps (state_after script steps).positions → IsTiedTo told script start is_alone steps
-tied-end None script start is_alone steps tied = tt
-tied-end (Some told) script start is_alone steps tied = record {
+pub tied-end : (told : Option History) (options : Opts) (script : List Line) (start : ℕ) (is_alone : Type 0) (steps : List Step) → IsTiedToSoFar told options script start is_alone [] steps (state_after options script steps).positions → IsTiedTo told options script start is_alone steps
+tied-end None options script start is_alone steps tied = tt
+tied-end (Some told) options script start is_alone steps tied = record {
   each = tied.each;
-  others = λ p logged above stands fixed. placed-none (state_after script steps).positions p (tied.others p logged above stands fixed);
-  alone = λ is p above below. placed-none (state_after script steps).positions p (tied.alone is p above below);
+  others = λ p logged above stands fixed. placed-none (state_after options script steps).positions p (tied.others p logged above stands fixed);
+  alone = λ is p above below. placed-none (state_after options script steps).positions p (tied.alone is p above below);
 }

@@ -1,5 +1,6 @@
 -- What a line's begin, a job's take with its call, and a job's end leave between two turns.
 use Rattle.std.proofs.Common.{◌≡◌, ◌≢◌, ℕ, ◌<◌, ◌≤◌, Bool, true, false, ◌==◌, ◌||◌, if◌then◌else◌, List, [], ◌∷◌, ◌++◌, Option, Some, None, refl, sym, ap, ◌∙◌, subst, inl, inr, arith, ne_eqb}
+use Rattle.mp_types.specs.declared.options.Opts.{Opts}
 use Rattle.std.specs.List.{AllByRecursion}
 use Rattle.bucket_model.specs.declared.call.Call.{Call}
 use Rattle.bucket_model.specs.Answers.{brief_of, bytes_in, fits, is_counted}
@@ -28,25 +29,25 @@ use Rattle.mp_driver.proofs.Ties.{in_less, in_more, tied-begun, tied-taken, tied
 
 -- reads, at first and one step more
 
-pub reads-none : (told : Option History) (script : List Line) → ReadsOver told script []
-reads-none None script = tt
-reads-none (Some told) script = tt
+pub reads-none : (told : Option History) (options : Opts) (script : List Line) → ReadsOver told options script []
+reads-none None options script = tt
+reads-none (Some told) options script = tt
 
-reads-push : (told : Option History) (script : List Line) (steps : List Step) (step : Step) → ((history : History) → told ≡ Some history → AllByRecursion (IsReadReply history.versions (state_after script steps)) step.replies) → ReadsOver told script steps → ReadsOver told script (steps ++ step ∷ [])
-reads-push None script steps step fine reads = tt
-reads-push (Some told) script steps step fine reads = Along-push (λ state (step : Step). AllByRecursion (IsReadReply told.versions state) step.replies) after (opening script) steps step reads (fine told refl)
+reads-push : (told : Option History) (options : Opts) (script : List Line) (steps : List Step) (step : Step) → ((history : History) → told ≡ Some history → AllByRecursion (IsReadReply history.versions (state_after options script steps)) step.replies) → ReadsOver told options script steps → ReadsOver told options script (steps ++ step ∷ [])
+reads-push None options script steps step fine reads = tt
+reads-push (Some told) options script steps step fine reads = Along-push (λ state (step : Step). AllByRecursion (IsReadReply told.versions state) step.replies) after (opening options script) steps step reads (fine told refl)
 
 -- a line begins
-pub begun-at : (told : Option History) (position start : ℕ) (is_alone : Type 0) (held : List HeldAnswer) (script : List Line) (steps : List Step) (line time : ℕ) (drops : List ℕ) (asks : List Ask) (replies : List Answered) →
-    IsLegalStep (state_after script steps) (record { event = Begin line time; drops = drops; asks = asks; replies = replies }) →
+pub begun-at : (told : Option History) (position start : ℕ) (is_alone : Type 0) (held : List HeldAnswer) (options : Opts) (script : List Line) (steps : List Step) (line time : ℕ) (drops : List ℕ) (asks : List Ask) (replies : List Answered) →
+    IsLegalStep (state_after options script steps) (record { event = Begin line time; drops = drops; asks = asks; replies = replies }) →
     AllByRecursion (GivesOnly []) replies →
-    IsBetween told position start is_alone held script steps (state_after script steps) →
-    IsBetween told position start is_alone held script (steps ++ record { event = Begin line time; drops = drops; asks = asks; replies = replies } ∷ []) (after (state_after script steps) (record { event = Begin line time; drops = drops; asks = asks; replies = replies }))
-begun-at told position start is_alone held script steps line time drops asks replies legal gives between =
-    let state : ClientState = state_after script steps in
+    IsBetween told position start is_alone held options script steps (state_after options script steps) →
+    IsBetween told position start is_alone held options script (steps ++ record { event = Begin line time; drops = drops; asks = asks; replies = replies } ∷ []) (after (state_after options script steps) (record { event = Begin line time; drops = drops; asks = asks; replies = replies }))
+begun-at told position start is_alone held options script steps line time drops asks replies legal gives between =
+    let state : ClientState = state_after options script steps in
     let step : Step = record { event = Begin line time; drops = drops; asks = asks; replies = replies } in
     record {
-      so_far = Along-push IsLegalStep after (opening script) steps step between.so_far legal;
+      so_far = Along-push IsLegalStep after (opening options script) steps step between.so_far legal;
       grown = between.grown;
       known = known-asked held state.jobs state.lines (Some line) asks between.known;
       owed = λ job got stands. owed-more told told state.jobs _ got (grows-none told) (λ j is. job_at-more got.job state.jobs _ j is) (between.owed job got stands);
@@ -54,14 +55,14 @@ begun-at told position start is_alone held script steps line time drops asks rep
       below = between.below;
       fresh = between.fresh;
       apart = between.apart;
-      tied = tied-begun told script start is_alone held steps step state.positions line time refl between.tied;
-      reads = λ rising. reads-push told script steps step (λ history is. run_begun_reads history.versions script steps step line time rising between.so_far legal refl gives) (between.reads rising);
+      tied = tied-begun told options script start is_alone held steps step state.positions line time refl between.tied;
+      reads = λ rising. reads-push told options script steps step (λ history is. run_begun_reads history.versions options script steps step line time rising between.so_far legal refl gives) (between.reads rising);
     }
 
 -- a job is taken, and its call's answer is held
-pub taken-at : (was now : Option History) (before behind start : ℕ) (is_alone alone_then : Type 0) (asked : Call) (got : HeldAnswer) (less more : List HeldAnswer) (script : List Line) (steps : List Step) (time : ℕ) (drops : List ℕ) (asks : List Ask) (replies : List Answered) →
-    IsLegalStep (state_after script steps) (record { event = Take got.job time before; drops = drops; asks = asks; replies = replies }) →
-    ((j : Job) → job_at got.job (state_after script steps).jobs ≡ Some j → asked ≡ j.call) →
+pub taken-at : (was now : Option History) (before behind start : ℕ) (is_alone alone_then : Type 0) (asked : Call) (got : HeldAnswer) (less more : List HeldAnswer) (options : Opts) (script : List Line) (steps : List Step) (time : ℕ) (drops : List ℕ) (asks : List Ask) (replies : List Answered) →
+    IsLegalStep (state_after options script steps) (record { event = Take got.job time before; drops = drops; asks = asks; replies = replies }) →
+    ((j : Job) → job_at got.job (state_after options script steps).jobs ≡ Some j → asked ≡ j.call) →
     fits asked (brief_of got.answer) ≡ true →
     before ≤ got.position →
     (is_counted (brief_of got.answer) ≡ true → got.position < behind) →
@@ -70,10 +71,10 @@ pub taken-at : (was now : Option History) (before behind start : ℕ) (is_alone 
     Tells alone_then asked got.position (brief_of got.answer) was now →
     BringsSlice asked got.answer now →
     IsWith got less more →
-    IsBetween was before start is_alone less script steps (state_after script steps) →
-    IsBetween now behind start is_alone more script (steps ++ record { event = Take got.job time before; drops = drops; asks = asks; replies = replies } ∷ []) (after (state_after script steps) (record { event = Take got.job time before; drops = drops; asks = asks; replies = replies }))
-taken-at was now before behind start is_alone alone_then asked got less more script steps time drops asks replies legal calls kind above counted grows alone tells slice with between = record {
-  so_far = Along-push IsLegalStep after (opening script) steps step between.so_far legal;
+    IsBetween was before start is_alone less options script steps (state_after options script steps) →
+    IsBetween now behind start is_alone more options script (steps ++ record { event = Take got.job time before; drops = drops; asks = asks; replies = replies } ∷ []) (after (state_after options script steps) (record { event = Take got.job time before; drops = drops; asks = asks; replies = replies }))
+taken-at was now before behind start is_alone alone_then asked got less more options script steps time drops asks replies legal calls kind above counted grows alone tells slice with between = record {
+  so_far = Along-push IsLegalStep after (opening options script) steps step between.so_far legal;
   grown = omega (arith, between.grown);
   known = known-asked more (change_job got.job (Out before) state.jobs) state.lines None asks (known-taken got less more before state.jobs with between.known);
   owed = λ job h stands. elim (in_more got less more job h with stands) [
@@ -107,12 +108,12 @@ taken-at was now before behind start is_alone alone_then asked got less more scr
       | inr there ↦ between.apart i j one two here.1 there.1 other one_counted two_counted
     ]
   ];
-  tied = tied-taken was now script start is_alone alone_then asked got less more steps step state.positions time before refl between.grown alone tells with between.tied;
-  reads = λ rising. reads-push now script steps step (λ history is. run_taken_reads history.versions script steps step got.job time before rising between.so_far legal refl) (reads-more was now script steps (tells-grow alone_then asked got.position (brief_of got.answer) was now tells) (between.reads rising));
+  tied = tied-taken was now options script start is_alone alone_then asked got less more steps step state.positions time before refl between.grown alone tells with between.tied;
+  reads = λ rising. reads-push now options script steps step (λ history is. run_taken_reads history.versions options script steps step got.job time before rising between.so_far legal refl) (reads-more was now options script steps (tells-grow alone_then asked got.position (brief_of got.answer) was now tells) (between.reads rising));
 }
   where
     state : ClientState
-    state = state_after script steps
+    state = state_after options script steps
 
     step : Step
     step = record { event = Take got.job time before; drops = drops; asks = asks; replies = replies }
@@ -156,18 +157,18 @@ behind-done : (b : Bool) (position bound : ℕ) (positions : List ℕ) → (b �
 behind-done true position bound positions below all = All-push (λ p. p < bound) positions position all (below refl)
 behind-done false position bound positions below all = all
 
-pub done-at : (told : Option History) (position start : ℕ) (is_alone : Type 0) (got : HeldAnswer) (less more : List HeldAnswer) (script : List Line) (steps : List Step) (drops : List ℕ) (asks : List Ask) (replies : List Answered) →
-    IsLegalStep (state_after script steps) (record { event = Done got.job got.position (brief_of got.answer); drops = drops; asks = asks; replies = replies }) →
+pub done-at : (told : Option History) (position start : ℕ) (is_alone : Type 0) (got : HeldAnswer) (less more : List HeldAnswer) (options : Opts) (script : List Line) (steps : List Step) (drops : List ℕ) (asks : List Ask) (replies : List Answered) →
+    IsLegalStep (state_after options script steps) (record { event = Done got.job got.position (brief_of got.answer); drops = drops; asks = asks; replies = replies }) →
     AllByRecursion (GivesOnly (bytes_in got.answer)) replies →
     IsWith got less more →
-    IsBetween told position start is_alone more script steps (state_after script steps) →
-    IsBetween told position start is_alone less script (steps ++ record { event = Done got.job got.position (brief_of got.answer); drops = drops; asks = asks; replies = replies } ∷ []) (after (state_after script steps) (record { event = Done got.job got.position (brief_of got.answer); drops = drops; asks = asks; replies = replies }))
-done-at told position start is_alone got less more script steps drops asks replies legal gives with between =
-    let state : ClientState = state_after script steps in
+    IsBetween told position start is_alone more options script steps (state_after options script steps) →
+    IsBetween told position start is_alone less options script (steps ++ record { event = Done got.job got.position (brief_of got.answer); drops = drops; asks = asks; replies = replies } ∷ []) (after (state_after options script steps) (record { event = Done got.job got.position (brief_of got.answer); drops = drops; asks = asks; replies = replies }))
+done-at told position start is_alone got less more options script steps drops asks replies legal gives with between =
+    let state : ClientState = state_after options script steps in
     let step : Step = record { event = Done got.job got.position (brief_of got.answer); drops = drops; asks = asks; replies = replies } in
     let owed = between.owed got.job got with.own in
     record {
-      so_far = Along-push IsLegalStep after (opening script) steps step between.so_far legal;
+      so_far = Along-push IsLegalStep after (opening options script) steps step between.so_far legal;
       grown = between.grown;
       known = known-asked less (change_job got.job Gone state.jobs) state.lines _ asks (known-done got less more state.jobs with between.known);
       owed = λ job h stands.
@@ -180,11 +181,11 @@ done-at told position start is_alone got less more script steps drops asks repli
           let there = in_less got less more job h with stands in
           not_among-push (is_counted (brief_of got.answer)) h.position got.position state.positions (between.fresh job h there.1 is) (λ counted. between.apart job got.job h got there.1 with.own there.0 is counted);
       apart = λ i j one two first second other one_counted two_counted. between.apart i j one two (in_less got less more i one with first).1 (in_less got less more j two with second).1 other one_counted two_counted;
-      tied = tied-done told script start is_alone got less more steps step state.positions refl (λ counted job stands. entry-of owed job stands counted) with between.tied;
-      reads = λ rising. reads-push told script steps step (λ history is. run_done_reads history.versions script steps step got.job got.position got.answer owed.job rising between.so_far legal refl owed.stands (subst (BringsSlice owed.job.call got.answer) is owed.slice) gives) (between.reads rising);
+      tied = tied-done told options script start is_alone got less more steps step state.positions refl (λ counted job stands. entry-of owed job stands counted) with between.tied;
+      reads = λ rising. reads-push told options script steps step (λ history is. run_done_reads history.versions options script steps step got.job got.position got.answer owed.job rising between.so_far legal refl owed.stands (subst (BringsSlice owed.job.call got.answer) is owed.slice) gives) (between.reads rising);
     }
   where
-    entry-of : (owed : IsOwed told (state_after script steps).jobs got) (job : Job) → job_at got.job (state_after script steps).jobs ≡ Some job → is_counted (brief_of got.answer) ≡ true → HasToldEntry told got.position job.call (brief_of got.answer)
+    entry-of : (owed : IsOwed told (state_after options script steps).jobs got) (job : Job) → job_at got.job (state_after options script steps).jobs ≡ Some job → is_counted (brief_of got.answer) ≡ true → HasToldEntry told got.position job.call (brief_of got.answer)
     entry-of owed job stands counted =
         let own = owed.stands in
         let both : Some owed.job ≡ Some job = sym own ∙ stands in

@@ -1,5 +1,6 @@
 -- What was read over some versions is read so over more.
 use Rattle.std.proofs.Common.{◌≡◌, ℕ, List, [], ◌∷◌, ◌++◌, find, Option, Some, None, option_map, slice_range, refl}
+use Rattle.mp_types.specs.declared.options.Opts.{Opts}
 use Rattle.std.specs.List.{AllByRecursion}
 use Rattle.std.proofs.lemmas.List.Folds.{find-append}
 use Rattle.bucket_model.specs.declared.call.Call.{Call}
@@ -19,7 +20,7 @@ use Rattle.mount_model.specs.declared.event.Answered.{Answered}
 use Rattle.mount_model.specs.declared.standing.Standing.{Standing}
 use Rattle.mount_model.specs.Step.{Step}
 use Rattle.mount_model.specs.Conversation.{Range, range_in}
-use Rattle.mount_model.specs.Handles.{Opened, handle_of}
+use Rattle.mount_model.specs.Handles.{Handles, handle_of}
 use Rattle.mount_model.specs.State.{ClientState, opening, after, line_at}
 use Rattle.mount_model.specs.Reads.{AreReads, IsDataAt, IsDataFor, IsRangeOf, IsReadOf, IsReadReply}
 use Rattle.run_laws.proofs.Spared.{all-more}
@@ -72,8 +73,11 @@ module _ (versions more : List ObjectVersion) where
   data-more (request.OpenRead name path) handle bytes is = is
   data-more (request.Close name) handle bytes is = is
   data-more (request.Delete key) handle bytes is = is
+  data-more (request.MakeDir path) handle bytes is = is
+  data-more (request.RemoveDir path) handle bytes is = is
+  data-more (request.Unlink path) handle bytes is = is
 
-  data_at-more : (handles : List Opened) (o : Option Standing) (bytes : List ℕ) → IsDataAt versions handles o bytes → IsDataAt (versions ++ more) handles o bytes
+  data_at-more : (handles : Handles) (o : Option Standing) (bytes : List ℕ) → IsDataAt versions handles o bytes → IsDataAt (versions ++ more) handles o bytes
   data_at-more handles None bytes is = is
   data_at-more handles (Some s) bytes is = data-more s.line.request (handle_of s.line handles) bytes is
 
@@ -81,7 +85,7 @@ module _ (versions more : List ObjectVersion) where
   reply-more state answered is = by_reply answered.line answered.reply is
     where
       by_reply : (line : ℕ) (said : Reply) → IsReadReply versions state (record { line = line; reply = said }) → IsReadReply (versions ++ more) state (record { line = line; reply = said })
-      by_reply line (reply.Data bytes) is = data_at-more state.handles (line_at line state.lines) bytes is
+      by_reply line (reply.Data bytes) is = data_at-more state.shared.handles (line_at line state.lines) bytes is
       by_reply line (reply.Made etag) is = tt
       by_reply line reply.Success is = tt
       by_reply line reply.Directory is = tt
@@ -90,6 +94,6 @@ module _ (versions more : List ObjectVersion) where
       by_reply line reply.Gone is = tt
       by_reply line (reply.Failed errno) is = tt
 
-  pub AreReads-more : (script : List Line) (steps : List Step) → AreReads versions script steps → AreReads (versions ++ more) script steps
-  AreReads-more script steps reads =
-      Along-more (λ state (step : Step). AllByRecursion (IsReadReply versions state) step.replies) (λ state (step : Step). AllByRecursion (IsReadReply (versions ++ more) state) step.replies) after (λ state step all. all-more (IsReadReply versions state) (IsReadReply (versions ++ more) state) (reply-more state) step.replies all) (opening script) steps reads
+  pub AreReads-more : (options : Opts) (script : List Line) (steps : List Step) → AreReads versions options script steps → AreReads (versions ++ more) options script steps
+  AreReads-more options script steps reads =
+      Along-more (λ state (step : Step). AllByRecursion (IsReadReply versions state) step.replies) (λ state (step : Step). AllByRecursion (IsReadReply (versions ++ more) state) step.replies) after (λ state step all. all-more (IsReadReply versions state) (IsReadReply (versions ++ more) state) (reply-more state) step.replies all) (opening options script) steps reads

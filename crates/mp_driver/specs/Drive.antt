@@ -1,5 +1,6 @@
 -- What a driven run is tied to, which bytes its reads give, and how many faults it has.
 use Rattle.std.specs.Prelude.{◌≡◌, ℕ, ◌+◌, ◌-◌, ◌^◌, ◌≤◌, Bool, true, false, ◌⊎◌, List, Option, Some, None}
+use Rattle.mp_types.specs.declared.options.Opts.{Opts}
 use Rattle.std.specs.List.{count_by}
 use Rattle.bucket_model.specs.declared.answer.Brief.{Brief}
 use Rattle.bucket_model.specs.declared.answer.Brief.TheVariants.{Found, Missing, Yes, No, Bytes, Changed, Gone, Made, Fault, NoMemory}
@@ -14,14 +15,14 @@ use Rattle.mount_model.specs.Tied.{IsTied}
 use Rattle.mount_core.specs.Core.{CoreState}
 
 -- the record is tied to the history, as far as the store tells it
-abbrev pub IsTiedTo : Option History → List Line → ℕ → Type 0 → List Step → Type 0
-IsTiedTo None script start is_alone steps = Unit {0}
-IsTiedTo (Some told) script start is_alone steps = IsTied script start is_alone told.log steps
+abbrev pub IsTiedTo : Option History → Opts → List Line → ℕ → Type 0 → List Step → Type 0
+IsTiedTo None options script start is_alone steps = Unit {0}
+IsTiedTo (Some told) options script start is_alone steps = IsTied options script start is_alone told.log steps
 
 -- each read gives bytes of the version that its handle opened, as far as the store tells its versions
-abbrev pub ReadsOver : Option History → List Line → List Step → Type 0
-ReadsOver None script steps = Unit {0}
-ReadsOver (Some told) script steps = AreReads told.versions script steps
+abbrev pub ReadsOver : Option History → Opts → List Line → List Step → Type 0
+ReadsOver None options script steps = Unit {0}
+ReadsOver (Some told) options script steps = AreReads told.versions options script steps
 
 -- whether the answer is a fault
 abbrev pub is_fault : Brief → Bool
@@ -55,9 +56,10 @@ abbrev pub HasFewFaults : ℕ → ℕ → List Step → Type 0
 HasFewFaults before now steps = HasRisenBy (faults_in steps) before now
 
 -- what is promised of a run that was driven to its end
-pub record IsDriven (told : Option History) (start : ℕ) (is_alone : Type 0) (before now : ℕ) (script : List Line) (done : CoreState) : Type 0 where
-  pub same : done.script ≡ script
-  pub run : IsRun script done.steps
-  pub tied : IsTiedTo told script start is_alone done.steps
-  pub reads : ReadsOver told script done.steps
+pub record IsDriven (told : Option History) (start : ℕ) (is_alone : Type 0) (before now : ℕ) (options : Opts) (script : List Line) (done : CoreState) : Type 0 where
+  pub same_options : done.options ≡ options
+  pub same_script : done.script ≡ script
+  pub run : IsRun options script done.steps
+  pub tied : IsTiedTo told options script start is_alone done.steps
+  pub reads : ReadsOver told options script done.steps
   pub faults : HasFewFaults before now done.steps

@@ -40,7 +40,7 @@ fn call_for<S: Store, C: Clock>(
 // Runs a core to its end by the first choice at each turn: no answer waits while another call is made.
 fn drive_oldest<S: Store, C: Clock>(mut core: Core, store: &mut S, clock: &mut C) -> Core
     requires { core.steps ≡ [] }
-    ensures driven { IsDriven (S.history store.new) (S.position store.old) (S.is_alone store.old) (S.faults store.old) (S.faults store.new) core.script result }
+    ensures driven { IsDriven (S.history store.new) (S.position store.old) (S.is_alone store.old) (S.faults store.old) (S.faults store.new) core.options core.script result }
     ensures grows { S.position store.old ≤ S.position store.new }
     ensures faults_grow { S.faults store.old ≤ S.faults store.new }
     ensures honest { S.is_honest store.old → S.is_honest store.new }
@@ -78,7 +78,7 @@ fn drive_listed<S: Store, C: Clock>(
     numbers: &[u32],
 ) -> Result<Core, AllocError>
     requires { core.steps ≡ [] }
-    ensures driven { IfOk result (λ done. IsDriven (S.history store.new) (S.position store.old) (S.is_alone store.old) (S.faults store.old) (S.faults store.new) core.script done) }
+    ensures driven { IfOk result (λ done. IsDriven (S.history store.new) (S.position store.old) (S.is_alone store.old) (S.faults store.old) (S.faults store.new) core.options core.script done) }
     ensures grows { S.position store.old ≤ S.position store.new }
     ensures faults_grow { S.faults store.old ≤ S.faults store.new }
     ensures honest { S.is_honest store.old → S.is_honest store.new }
@@ -124,12 +124,13 @@ pub fn drive<S: Store, C: Clock>(
     schedule: &Schedule,
 ) -> Result<Core, AllocError>
     requires { core.steps ≡ [] }
+    ensures options { IfOk result (λ done. done.options ≡ core.options) }
     ensures script { IfOk result (λ done. done.script ≡ core.script) }
-    ensures run { IfOk result (λ done. IsRun core.script done.steps) }
-    ensures tied { IfOk result (λ done. IsTiedTo (S.history store.new) core.script (S.position store.old) (S.is_alone store.old) done.steps) }
+    ensures run { IfOk result (λ done. IsRun core.options core.script done.steps) }
+    ensures tied { IfOk result (λ done. IsTiedTo (S.history store.new) core.options core.script (S.position store.old) (S.is_alone store.old) done.steps) }
 
     // Each read gives bytes of the version that its handle opened, over the versions that the store tells at the end.
-    ensures reads { IfOk result (λ done. ReadsOver (S.history store.new) core.script done.steps) }
+    ensures reads { IfOk result (λ done. ReadsOver (S.history store.new) core.options core.script done.steps) }
 
     // The record tells at most as many faults as the store's count rose by.
     ensures faults { IfOk result (λ done. HasFewFaults (S.faults store.old) (S.faults store.new) done.steps) }

@@ -6,7 +6,7 @@ use mem_store::MemStore;
 use mount_core::Core;
 use mount_model::{Event, Item, Line, Record, Request, Script};
 use mp_io::ListClock;
-use mp_types::{Items, Text};
+use mp_types::{Items, Opts, Text};
 use std::alloc::{AllocError, Global};
 use std::test::Fail;
 
@@ -54,7 +54,7 @@ fn events(alloc: Global, record: &Record) -> Result<String, Fail> {
 
 // The events of a run over an empty bucket. The clock tells how often it was read.
 fn driven(alloc: Global, schedule: &Schedule) -> Result<String, Fail> {
-    let core = Core::new(alloc, script(alloc)?)?;
+    let core = Core::new(alloc, script(alloc)?, Opts::default())?;
     let mut store = MemStore::new(alloc)?;
     let mut clock = ListClock::new(vec![in alloc; 0u64, 1, 2, 3, 4, 5, 6, 7, 8, 9]?);
     let core = drive(alloc, core, &mut store, &mut clock, schedule)?;

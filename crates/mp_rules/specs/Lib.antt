@@ -1,4 +1,5 @@
 pub mod Entry
 pub mod Keys
+pub mod Local
 pub mod Names
 pub mod Walk

@@ -6,7 +6,9 @@ use Rattle.mp_types.specs.declared.errno.Errno.{Errno}
 use Rattle.mp_types.specs.declared.errno.Errno.TheVariants.{Enoent, Enotdir}
 use Rattle.mp_types.specs.Path.{slash}
 use Rattle.mp_rules.specs.declared.entry.Entry.{Entry}
-use Rattle.mp_rules.specs.declared.entry.Entry.TheVariants.{Directory, File, Nothing}
+use Rattle.mp_rules.specs.declared.entry.Entry.TheVariants.{RemoteDir, LocalDir, File, Nothing}
+use Rattle.mp_rules.specs.declared.entry.Local.{Local}
+use Rattle.mp_rules.specs.declared.entry.Local.TheVariants.{Dir}
 use Rattle.mp_rules.specs.declared.facts.Question.{Question}
 use Rattle.mp_rules.specs.declared.facts.Question.TheVariants.{Head, Probe}
 use Rattle.mp_rules.specs.declared.facts.Fact.{Fact}
@@ -44,35 +46,36 @@ pub data Decision : Type 0 where
   Is : Entry → Decision
   Refused : Errno → Decision
 
--- no key lies below: a file, or nothing
+-- nothing else is there: a file of the bucket, or nothing
 abbrev pub by_head : List ℕ → Option Fact → Decision
 by_head key None = Need (Head key)
 by_head key (Some (Found etag size)) = Is (File etag size)
 by_head key (Some fact) = Is Nothing
 
--- first whether it is a directory, since a directory hides a file of its name
-abbrev pub by_probe : List ℕ → Option Fact → Option Fact → Decision
-by_probe key None head = Need (Probe key)
-by_probe key (Some Yes) head = Is Directory
-by_probe key (Some fact) head = by_head key head
+-- no key lies below: what is local hides a file of the bucket. No file is local yet.
+abbrev pub by_local : List ℕ → Local → Option Fact → Decision
+by_local key Dir head = Is LocalDir
+by_local key local head = by_head key head
 
-abbrev pub entry_at : (Question → Option Fact) → List ℕ → Decision
-entry_at facts key = by_probe key (facts (Probe key)) (facts (Head key))
+-- first whether keys lie below, since a directory of the bucket hides all else of its name
+abbrev pub by_probe : List ℕ → Option Fact → Local → Option Fact → Decision
+by_probe key None local head = Need (Probe key)
+by_probe key (Some Yes) local head = Is RemoteDir
+by_probe key (Some fact) local head = by_local key local head
+
+abbrev pub entry_at : (Question → Option Fact) → (List ℕ → Local) → List ℕ → Decision
+entry_at facts local key = by_probe key (facts (Probe key)) (local key) (facts (Head key))
 
 -- a proper prefix has to be a directory
 abbrev pub below : Decision → Decision → Decision
 below (Need question) rest = Need question
-below (Is Directory) rest = rest
+below (Is RemoteDir) rest = rest
+below (Is LocalDir) rest = rest
 below (Is (File etag size)) rest = Refused Enotdir
 below (Is Nothing) rest = Refused Enoent
 below (Refused errno) rest = Refused errno
 
 -- the walk from the left: the path of this key, and then the names below it
-abbrev pub walk : (Question → Option Fact) → List ℕ → List (List ℕ) → Decision
-walk facts key [] = entry_at facts key
-walk facts key (name ∷ names) = below (entry_at facts key) (walk facts (key ++ slash ∷ name) names)
-
--- what stands at the path of these names: the root is a directory
-abbrev pub stands_at : (Question → Option Fact) → List (List ℕ) → Decision
-stands_at facts [] = Is Directory
-stands_at facts (name ∷ names) = walk facts name names
+abbrev pub walk : (Question → Option Fact) → (List ℕ → Local) → List ℕ → List (List ℕ) → Decision
+walk facts local key [] = entry_at facts local key
+walk facts local key (name ∷ names) = below (entry_at facts local key) (walk facts local (key ++ slash ∷ name) names)

@@ -24,7 +24,10 @@ pub enum Kind {
 /// What a walk finds at a path.
 #[derive(Debug, Drop, PartialEq, Eq)]
 pub enum Entry {
-    Directory,
+    /// Some key lies below it.
+    RemoteDir,
+    /// It was made here, or a name of the mount's own lies below it.
+    LocalDir,
     /// An object of this ETag and this many bytes, with no key below it.
     File { etag: ETag, size: u64 },
     Nothing,

@@ -1,10 +1,11 @@
 -- Bytes cut at their first separator.
-use Rattle.std.proofs.Common.{◌≡◌, ◌≢◌, ℕ, suc, ◌+◌, ◌-◌, ◌<◌, ◌≤◌, Bool, true, false, cond, ◌&&◌, ◌||◌, eqb, ltb, List, [], ◌∷◌, ◌++◌, length, take, drop, get_or, refl, sym, ap, ◌∙◌, arith, add-one, drop-cons, eqb-true, eq-eqb}
+use Rattle.std.proofs.Common.{◌≡◌, ◌≢◌, ℕ, zero, suc, ◌+◌, ◌-◌, ◌<◌, ◌≤◌, Bool, true, false, cond, ◌&&◌, ◌||◌, eqb, ltb, List, [], ◌∷◌, ◌++◌, length, take, drop, get_or, refl, sym, ap, ◌∙◌, arith, add-one, drop-cons, eqb-true, eq-eqb, lit<}
 use Rattle.std.proofs.Math.Dec.{eqb-suc-zero}
 use Rattle.std.specs.List.{list_any, slice_split, onto_first}
-use Rattle.std.proofs.lemmas.Bool.{lt-ltb, false_from_ne_true}
+use Rattle.std.proofs.lemmas.Bool.{ne_eqb, lt-ltb, false_from_ne_true}
 use Rattle.std.proofs.lemmas.List.{take_rest, take-append-drop, length-take, get_or-take, get_or_default}
 use Rattle.std.proofs.lemmas.List.Folds.{list_any_none}
+use Rattle.memchr.specs.Find.{OccursAt}
 use Rattle.mount_model.specs.ScriptText.{lines_of}
 use Rattle.mp_script.specs.Words.{has, parts_of, words_of, has_empty}
 
@@ -92,13 +93,62 @@ has_empty-is (byte ∷ bytes) = step (eqb byte 32) (has_first 32 bytes) (has_emp
     step true first h = (refl, h.0)
     step false first h = (h.1 ∙ begun byte (words_of bytes) first, h.1 ∙ begun_first byte (words_of bytes) first)
 
-pub empties_first : (line : List ℕ) → empties true line ≡ has_empty line
-empties_first line = (has_empty-is line).0
+either_true : (a b : Bool) → b ≡ true → (a || b) ≡ true
+either_true true b h = refl
+either_true false b h = h
 
-pub empties_more : (found at_start : Bool) (i : ℕ) (line : List ℕ) → i < length line
-    → ((found || (eqb (get_or line i 0) 32 && at_start)) || empties (eqb (get_or line i 0) 32) (drop (i + 1) line)) ≡ (found || empties at_start (drop i line))
-empties_more true at_start i line lt = refl
-empties_more false at_start i line lt = rw (drop-cons line i 0 lt, add-one) refl
+-- a space at the end
+ends : (at_start : Bool) (k : ℕ) (line : List ℕ) → k + 1 ≡ length line → get_or line k 0 ≡ 32 → empties at_start line ≡ true
+ends at_start k [] last is = absurd (omega arith)
+ends at_start zero (byte ∷ []) last is = rw is (either_true at_start true refl)
+ends at_start zero (byte ∷ next ∷ bytes) last is = absurd (omega arith)
+ends at_start (suc k) (byte ∷ bytes) last is = either_true (eqb byte 32 && at_start) (empties (eqb byte 32) bytes) (ends (eqb byte 32) k bytes (omega arith) is)
+
+pub ends_empty : (line : List ℕ) → 0 < length line → get_or line (length line - 1) 0 ≡ 32 → has_empty line ≡ true
+ends_empty line some is = sym (has_empty-is line).0 ∙ ends true (length line - 1) line (omega arith) is
+
+-- two spaces in a row
+pair : (at_start : Bool) (k : ℕ) (line : List ℕ) → k + 1 < length line → get_or line k 0 ≡ 32 → get_or line (suc k) 0 ≡ 32 → empties at_start line ≡ true
+pair at_start k [] lt first second = absurd (omega arith)
+pair at_start k (byte ∷ []) lt first second = absurd (omega arith)
+pair at_start zero (byte ∷ next ∷ bytes) lt first second = rw (first, second) (either_true at_start true refl)
+pair at_start (suc k) (byte ∷ next ∷ bytes) lt first second =
+    either_true (eqb byte 32 && at_start) (empties (eqb byte 32) (next ∷ bytes)) (pair (eqb byte 32) k (next ∷ bytes) (omega arith) first second)
+
+pub pair_empty : (line : List ℕ) (k : ℕ) → OccursAt line (32 ∷ 32 ∷ []) k → has_empty line ≡ true
+pair_empty line k occurs =
+    let here : k + 0 ≡ k = omega arith in
+    let first : get_or line k 0 ≡ 32 = rw here at (occurs.reads 0 (lit< tt)) in
+    let second : get_or line (suc k) 0 ≡ 32 = rw add-one at (occurs.reads 1 (lit< tt)) in
+    sym (has_empty-is line).0 ∙ pair true k line (omega (arith, occurs.fits)) first second
+
+occurs : (line : List ℕ) (k : ℕ) → k + 1 < length line → get_or line k 0 ≡ 32 → get_or line (suc k) 0 ≡ 32 → OccursAt line (32 ∷ 32 ∷ []) k
+occurs line k lt first second = record { fits = omega arith; reads = reads }
+  where
+    reads : (j : ℕ) → j < 2 → get_or line (k + j) 0 ≡ get_or (32 ∷ 32 ∷ []) j 0
+    reads zero within = let here : k + 0 ≡ k = omega arith in rw here first
+    reads (suc zero) within = rw add-one second
+    reads (suc (suc j)) within = absurd (omega arith)
+
+-- no space at an end, and no two in a row
+none : (at_start : Bool) (line : List ℕ) → 0 < length line → (at_start ≡ true → get_or line 0 0 ≡ 32 → ⊥) → ((k : ℕ) → k + 1 < length line → get_or line k 0 ≡ 32 → get_or line (suc k) 0 ≡ 32 → ⊥)
+    → ((k : ℕ) → k + 1 ≡ length line → get_or line k 0 ≡ 32 → ⊥) → empties at_start line ≡ false
+none at_start [] some start between end = absurd (omega arith)
+none at_start (byte ∷ []) some start between end = let last : eqb byte 32 ≡ false = ne_eqb byte 32 (end 0 (omega arith)) in rw last refl
+none at_start (byte ∷ next ∷ bytes) some start between end =
+    let here : (eqb byte 32 && at_start) ≡ false = step (eqb byte 32) at_start (eqb-true byte 32) start in
+    rw here (none (eqb byte 32) (next ∷ bytes) (omega arith) (λ is second. between 0 (omega arith) (eqb-true byte 32 is) second) (λ k lt first second. between (suc k) (omega arith) first second) (λ k last is. end (suc k) (omega arith) is))
+  where
+    step : (b s : Bool) → (b ≡ true → byte ≡ 32) → (s ≡ true → byte ≡ 32 → ⊥) → (b && s) ≡ false
+    step true true is never = absurd (never refl (is refl))
+    step true false is never = refl
+    step false s is never = refl
+
+pub none_empty : (line : List ℕ) → 0 < length line → (get_or line 0 0 ≡ 32 → ⊥) → (get_or line (length line - 1) 0 ≡ 32 → ⊥) → ((k : ℕ) → 0 ≤ k → k < length line + 1 → OccursAt line (32 ∷ 32 ∷ []) k → ⊥) → has_empty line ≡ false
+none_empty line some start end between =
+    sym (has_empty-is line).0
+    ∙ none true line some (λ at_start is. start is) (λ k lt first second. between k (omega arith) (omega arith) (occurs line k lt first second))
+    (λ k last is. let same : k ≡ length line - 1 = omega arith in end (rw same at is))
 
 -- ---- known counts of parts
 

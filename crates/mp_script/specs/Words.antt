@@ -3,9 +3,9 @@ use Rattle.std.specs.Prelude.{ℕ, List, Bool, ◌++◌, ◌&&◌, ◌==◌, nat
 use Rattle.std.specs.List.{list_any, slice_split}
 use Rattle.mount_model.specs.declared.fault.ScriptCause.{ScriptCause}
 use Rattle.mount_model.specs.declared.request.Request.{Request}
-use Rattle.mount_model.specs.ScriptText.{is_number, number_of, await_of, put_of, delete_of, stat_of, open_of, read_of, close_of}
+use Rattle.mount_model.specs.ScriptText.{is_number, number_of, await_of, put_of, delete_of, stat_of, open_of, read_of, close_of, make_of, remove_of, unlink_of}
 use Rattle.mp_script.specs.declared.request.Verb.{Verb}
-use Rattle.mp_script.specs.declared.request.Verb.TheVariants.{Await, Put, Delete, Stat, OpenRead, Read, Close}
+use Rattle.mp_script.specs.declared.request.Verb.TheVariants.{Await, Put, Delete, Stat, OpenRead, Read, Close, MakeDir, RemoveDir, Unlink}
 
 abbrev pub has : ℕ → List ℕ → Bool
 has separator text = list_any (λ byte. byte == separator) text
@@ -38,3 +38,6 @@ verb_request Stat words = stat_of words
 verb_request OpenRead words = open_of words
 verb_request Read words = read_of words
 verb_request Close words = close_of words
+verb_request MakeDir words = make_of words
+verb_request RemoveDir words = remove_of words
+verb_request Unlink words = unlink_of words

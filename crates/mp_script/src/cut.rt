@@ -1,7 +1,7 @@
 ghost use Rattle.std.specs.Prelude.{◌≡◌, ◌≢◌, ◌∷◌, ◌++◌, [], length, MatchOption, false};
 ghost use Rattle.mp_script.specs.Words.{has, parts_of, has_empty};
 
-use memchr::memchr;
+use memchr::{memchr, memmem};
 
 // The bytes on either side of a separator.
 #[derive(Clone, Copy)]
@@ -65,16 +65,21 @@ pub fn three_parts(text: &[u8], separator: u8) -> Option<(&[u8], Parted<'_>)>
     }
 }
 
-// Whether an empty word stands between spaces, or at an end. It looks at all bytes, without a way out, so that many are compared at once.
+// Whether an empty word stands between spaces, or at an end.
 pub fn has_empty_word(line: &[u8]) -> bool
     ensures { result ≡ has_empty line.now }
 {
-    let mut found = false;
-    let mut at_start = true;
-    for byte in line {
-        let is_space = *byte == b' ';
-        found |= is_space & at_start;
-        at_start = is_space;
+    if line.is_empty() {
+        return true;
     }
-    found | at_start
+    if line[0] == b' ' {
+        return true;
+    }
+    if line[line.len() - 1] == b' ' {
+        return true;
+    }
+    match memmem::find(line, b"  ") {
+        None => false,
+        Some(_) => true,
+    }
 }

@@ -1,6 +1,6 @@
 ghost use Rattle.std.specs.Prelude.{◌≡◌, List, ℕ, [], Err, MatchResult};
 ghost use Rattle.mount_model.specs.ScriptText as script;
-ghost use Rattle.mount_model.specs.ScriptText.{change_of, asked_by_process, request_of, put_of, delete_of, stat_of, open_of, read_of, close_of, asked_of};
+ghost use Rattle.mount_model.specs.ScriptText.{change_of, asked_by_process, request_of, put_of, delete_of, path_words, stat_of, open_of, read_of, close_of, make_of, remove_of, unlink_of, asked_of};
 ghost use Rattle.mp_script.specs.Reads.{Gives, asked};
 ghost use Rattle.mp_script.specs.Words.{words_of, verb_request};
 
@@ -9,6 +9,7 @@ use crate::cut::{cut, has_empty_word, one_part, three_parts, two_parts};
 use crate::fault::Fault;
 use crate::word;
 use mount_model::{Request, ScriptCause};
+use mp_types::Text;
 use std::alloc::Global;
 
 #[derive(Clone, Copy, Debug, PartialEq, Eq)]
@@ -20,6 +21,9 @@ pub enum Verb {
     OpenRead,
     Read,
     Close,
+    MakeDir,
+    RemoveDir,
+    Unlink,
 }
 
 // The verb of a change that the others make.
@@ -50,6 +54,15 @@ fn process_verb(word: &[u8]) -> Result<Verb, ScriptCause>
     }
     if word == b"close".as_slice() {
         return Ok(Verb::Close);
+    }
+    if word == b"mkdir".as_slice() {
+        return Ok(Verb::MakeDir);
+    }
+    if word == b"rmdir".as_slice() {
+        return Ok(Verb::RemoveDir);
+    }
+    if word == b"unlink".as_slice() {
+        return Ok(Verb::Unlink);
     }
     Err(ScriptCause::Verb)
 }
@@ -92,16 +105,42 @@ fn delete(alloc: Global, text: &[u8]) -> Result<Request, Fault>
     }
 }
 
-fn stat(alloc: Global, text: &[u8]) -> Result<Request, Fault>
-    ensures { Gives (λ r. r) result (stat_of (words_of text.now)) }
+// The path of a request that has no other words.
+fn only_path(alloc: Global, text: &[u8]) -> Result<Text, Fault>
+    ensures { Gives (λ path. path) result (path_words (words_of text.now)) }
 {
     match one_part(text, b' ') {
         None => Err(Fault::Cause(ScriptCause::Words)),
-        Some(word) => {
-            let path = word::path(alloc, word)?;
-            Ok(Request::Stat { path })
-        }
+        Some(word) => word::path(alloc, word),
     }
+}
+
+fn stat(alloc: Global, text: &[u8]) -> Result<Request, Fault>
+    ensures { Gives (λ r. r) result (stat_of (words_of text.now)) }
+{
+    let path = only_path(alloc, text)?;
+    Ok(Request::Stat { path })
+}
+
+fn make_dir(alloc: Global, text: &[u8]) -> Result<Request, Fault>
+    ensures { Gives (λ r. r) result (make_of (words_of text.now)) }
+{
+    let path = only_path(alloc, text)?;
+    Ok(Request::MakeDir { path })
+}
+
+fn remove_dir(alloc: Global, text: &[u8]) -> Result<Request, Fault>
+    ensures { Gives (λ r. r) result (remove_of (words_of text.now)) }
+{
+    let path = only_path(alloc, text)?;
+    Ok(Request::RemoveDir { path })
+}
+
+fn unlink(alloc: Global, text: &[u8]) -> Result<Request, Fault>
+    ensures { Gives (λ r. r) result (unlink_of (words_of text.now)) }
+{
+    let path = only_path(alloc, text)?;
+    Ok(Request::Unlink { path })
 }
 
 fn open_read(alloc: Global, text: &[u8]) -> Result<Request, Fault>
@@ -153,9 +192,15 @@ fn bare_request(verb: Verb) -> Result<Request, ScriptCause>
 {
     match verb {
         Verb::Await => Ok(Request::Await),
-        Verb::Put | Verb::Delete | Verb::Stat | Verb::OpenRead | Verb::Read | Verb::Close => {
-            Err(ScriptCause::Words)
-        }
+        Verb::Put
+        | Verb::Delete
+        | Verb::Stat
+        | Verb::OpenRead
+        | Verb::Read
+        | Verb::Close
+        | Verb::MakeDir
+        | Verb::RemoveDir
+        | Verb::Unlink => Err(ScriptCause::Words),
     }
 }
 
@@ -171,6 +216,9 @@ fn request(alloc: Global, verb: Verb, text: &[u8]) -> Result<Request, Fault>
         Verb::OpenRead => open_read(alloc, text),
         Verb::Read => Ok(read(text)?),
         Verb::Close => Ok(close(text)?),
+        Verb::MakeDir => make_dir(alloc, text),
+        Verb::RemoveDir => remove_dir(alloc, text),
+        Verb::Unlink => unlink(alloc, text),
     }
 }
 

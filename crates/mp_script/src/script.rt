@@ -52,7 +52,10 @@ fn count_in(request: &Request) -> u64
         | Request::Stat { .. }
         | Request::OpenRead { .. }
         | Request::Close { .. }
-        | Request::Delete { .. } => 0,
+        | Request::Delete { .. }
+        | Request::MakeDir { .. }
+        | Request::RemoveDir { .. }
+        | Request::Unlink { .. } => 0,
     }
 }
 
@@ -67,7 +70,10 @@ fn given_in(request: &Request) -> u64
         | Request::OpenRead { .. }
         | Request::Read { .. }
         | Request::Close { .. }
-        | Request::Delete { .. } => 0,
+        | Request::Delete { .. }
+        | Request::MakeDir { .. }
+        | Request::RemoveDir { .. }
+        | Request::Unlink { .. } => 0,
     }
 }
 

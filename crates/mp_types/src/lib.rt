@@ -8,6 +8,7 @@ mod etag;
 mod items;
 mod key;
 mod octets;
+mod options;
 mod path;
 mod text;
 
@@ -16,6 +17,7 @@ pub use etag::{ETag, ETagFault};
 pub use items::Items;
 pub use key::{Key, KeyFault};
 pub use octets::Data;
+pub use options::Opts;
 pub use path::{FilePath, PathFault, below_root, is_name};
 pub use text::Text;
 

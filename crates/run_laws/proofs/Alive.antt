@@ -1,9 +1,10 @@
 -- Each legal step leaves an alive state alive.
 use Rattle.std.proofs.Common.{◌≡◌, ℕ, ◌+◌, ◌<◌, ◌≤◌, List, [], ◌∷◌, ◌++◌, map, fold, length, cond, Bool, true, false, ◌==◌, Option, Some, None, option_map, refl, sym, ap, ◌∙◌, subst, arith, append-nil, eq-eqb, ne_eqb}
+use Rattle.mp_types.specs.declared.options.Opts.{Opts}
 use Rattle.bucket_model.specs.Along.{Along}
 use Rattle.bucket_model.specs.declared.answer.Brief.{Brief}
 use Rattle.mount_model.specs.declared.request.Request.{Request}
-use Rattle.mount_model.specs.declared.request.Request.TheVariants.{Put, Await, Stat, OpenRead, Read, Close, Delete}
+use Rattle.mount_model.specs.declared.request.Request.TheVariants.{Put, Await, Stat, OpenRead, Read, Close, Delete, MakeDir, RemoveDir, Unlink}
 use Rattle.mount_model.specs.declared.request.Line.{Line}
 use Rattle.mount_model.specs.declared.event.Event.{Event}
 use Rattle.mount_model.specs.declared.event.Event.TheVariants.{Begin, Take, Done}
@@ -17,9 +18,8 @@ use Rattle.mount_model.specs.declared.standing.Standing.{Standing}
 use Rattle.mount_model.specs.declared.standing.Told.{Told}
 use Rattle.mount_model.specs.Heard.{nothing_heard, with_told, question_of, told_by}
 use Rattle.mount_model.specs.Step.{Step}
-use Rattle.mount_model.specs.State.{ClientState, Job, JobPhase, Ready, Out, Gone, line_at, job_at, change_line, change_job, heard, hears, lines_at, jobs_at, with_replies, line_of, next_at, job_of, jobs_asked, handles_after, time_after, positions_after, opening, after, state_after}
-use Rattle.mount_model.specs.Conversation.{Asks, next_of}
-use Rattle.mount_model.specs.Handles.{Opened, handle_of}
+use Rattle.mount_model.specs.State.{Shared, ClientState, Job, JobPhase, Ready, Out, Gone, line_at, job_at, change_line, change_job, heard, hears, lines_at, jobs_at, with_replies, line_of, next_at, view_of, job_of, jobs_asked, shared_after, time_after, positions_after, opening, after, state_after}
+use Rattle.mount_model.specs.Conversation.{next_of}
 use Rattle.mount_model.specs.Run.{AreRising, TakesTurn, Turn, TurnOf, owner_at, turn_of, turn_at, due_awaits, MayCome, MayDone, is_among, startable, ready, IsLegalStep, IsRunSoFar}
 use Rattle.run_laws.specs.Alive.{live_job, if_live, if_line, jobs_at_once, jobs_wanted, AreOrderly, IsAlive}
 use Rattle.run_laws.proofs.Keyed.{total-at}
@@ -30,36 +30,35 @@ use Rattle.run_laws.specs.Alive.{total}
 use Rattle.run_laws.specs.Faithful.{IsFaithful}
 use Rattle.run_laws.specs.Once.{begins, begun_in, replied_in}
 use Rattle.run_laws.specs.Calls.{may_ask}
-use Rattle.run_laws.proofs.Conversation.{calls_left_fall}
 use Rattle.run_laws.specs.Work.{calls_left, line_work, job_work, work_left}
 use Rattle.run_laws.proofs.Work.{asked_work, begin-work, heard-work, taken-work, gone-work}
 use Rattle.run_laws.proofs.Turn.{IsOpen, IsClosed, close-turn, settle, turn-work, settle-work}
 
 -- before the first step
 
-opening-wanted : (n : ℕ) (script : List Line) → 0 ≡ jobs_wanted (line_at n (opening script).lines)
-opening-wanted n [] = refl
-opening-wanted n (line ∷ script) = go (line.number == n) (opening-wanted n script)
+opening-wanted : (n : ℕ) (options : Opts) (script : List Line) → 0 ≡ jobs_wanted (line_at n (opening options script).lines)
+opening-wanted n options [] = refl
+opening-wanted n options (line ∷ script) = go (line.number == n) (opening-wanted n options script)
   where
-    go : (b : Bool) → 0 ≡ jobs_wanted (line_at n (opening script).lines) → 0 ≡ jobs_wanted (cond b (Some (record { line = line; phase = Waiting })) (line_at n (opening script).lines))
+    go : (b : Bool) → 0 ≡ jobs_wanted (line_at n (opening options script).lines) → 0 ≡ jobs_wanted (cond b (Some (record { line = line; phase = Waiting })) (line_at n (opening options script).lines))
     go true e = refl
     go false e = e
 
-opening-due : (script : List Line) → due_awaits (opening script).lines ≡ []
-opening-due [] = refl
-opening-due (line ∷ script) = refl
+opening-due : (options : Opts) (script : List Line) → due_awaits (opening options script).lines ≡ []
+opening-due options [] = refl
+opening-due options (line ∷ script) = refl
 
-opening-orderly : (busy : List ℕ) (script : List Line) → AreOrderly busy (opening script).lines
-opening-orderly busy [] = tt
-opening-orderly busy (line ∷ script) = opening-orderly (line.actor ∷ busy) script
+opening-orderly : (busy : List ℕ) (options : Opts) (script : List Line) → AreOrderly busy (opening options script).lines
+opening-orderly busy options [] = tt
+opening-orderly busy options (line ∷ script) = opening-orderly (line.actor ∷ busy) options script
 
-pub opening-alive : (script : List Line) → AreRising 0 script → IsAlive (opening script)
-opening-alive script rising = record {
-  rising = rw (lines-opening script) rising;
+pub opening-alive : (options : Opts) (script : List Line) → AreRising 0 script → IsAlive (opening options script)
+opening-alive options script rising = record {
+  rising = rw (lines-opening options script) rising;
   numbered = tt;
-  balanced = λ n. opening-wanted n script;
-  no_due = opening-due script;
-  orderly = opening-orderly [] script;
+  balanced = λ n. opening-wanted n options script;
+  no_due = opening-due options script;
+  orderly = opening-orderly [] options script;
 }
 
 -- whose turn it is
@@ -78,6 +77,9 @@ due-request n lines number actor (OpenRead name path) heard e h = record { line 
 due-request n lines number actor (Read name offset count) heard e h = record { line = record { number = number; actor = actor; request = Read name offset count }; heard = heard; stands = e; wants = refl }
 due-request n lines number actor (Close name) heard e h = record { line = record { number = number; actor = actor; request = Close name }; heard = heard; stands = e; wants = refl }
 due-request n lines number actor (Delete key) heard e h = record { line = record { number = number; actor = actor; request = Delete key }; heard = heard; stands = e; wants = refl }
+due-request n lines number actor (MakeDir path) heard e h = record { line = record { number = number; actor = actor; request = MakeDir path }; heard = heard; stands = e; wants = refl }
+due-request n lines number actor (RemoveDir path) heard e h = record { line = record { number = number; actor = actor; request = RemoveDir path }; heard = heard; stands = e; wants = refl }
+due-request n lines number actor (Unlink path) heard e h = record { line = record { number = number; actor = actor; request = Unlink path }; heard = heard; stands = e; wants = refl }
 
 due-phase : (n : ℕ) (lines : List Standing) (line : Line) (phase : Phase) → line_at n lines ≡ Some (record { line = line; phase = phase }) → 1 ≤ jobs_wanted (Some (record { line = line; phase = phase })) → IsDue n lines
 due-phase n lines line Waiting e h = absurd (omega arith)
@@ -103,11 +105,11 @@ owner-due state number n job alive stands owns live =
 
 -- the turn opens
 
-pub next_at-begun : (handles : List Opened) (n : ℕ) (line : Line) (heard : Heard) (lines : List Standing) → line_at n lines ≡ Some (record { line = line; phase = Begun heard }) → next_at handles n lines ≡ next_of (handle_of line handles) line.request heard
-next_at-begun handles n line heard lines stands = rw stands refl
+pub next_at-begun : (shared : Shared) (n : ℕ) (line : Line) (heard : Heard) (lines : List Standing) → line_at n lines ≡ Some (record { line = line; phase = Begun heard }) → next_at shared n lines ≡ next_of (view_of shared line) line.request heard
+next_at-begun shared n line heard lines stands = rw stands refl
 
-pub turn-begun : (handles : List Opened) (n : ℕ) (line : Line) (heard : Heard) (lines : List Standing) → line_at n lines ≡ Some (record { line = line; phase = Begun heard }) → turn_of handles (Some n) lines ≡ TurnOf n (owner_at handles n lines) (next_of (handle_of line handles) line.request heard)
-turn-begun handles n line heard lines stands = ap (TurnOf n (owner_at handles n lines)) (next_at-begun handles n line heard lines stands)
+pub turn-begun : (shared : Shared) (n : ℕ) (line : Line) (heard : Heard) (lines : List Standing) → line_at n lines ≡ Some (record { line = line; phase = Begun heard }) → turn_of shared (Some n) lines ≡ TurnOf n (owner_at shared n lines) (next_of (view_of shared line) line.request heard)
+turn-begun shared n line heard lines stands = ap (TurnOf n (owner_at shared n lines)) (next_at-begun shared n line heard lines stands)
 
 begin-turn : (state : ClientState) (n : ℕ) (line : Line) → IsAlive state → is_among n (startable state.lines) ≡ true → line_at n state.lines ≡ Some (record { line = line; phase = Waiting }) → IsOpen n line nothing_heard (change_line n (λ phase. Begun nothing_heard) state.lines) state.jobs
 begin-turn state n line alive may stands = record {
@@ -148,8 +150,8 @@ hears-is o job answer lines stands = ap (λ (t : Option Job). hears t answer lin
 pub line-is : (o : Option Job) (job : Job) → o ≡ Some job → option_map (λ (j : Job). j.line) o ≡ Some job.line
 line-is o job stands = ap (option_map (λ (j : Job). j.line)) stands
 
-pub turn-is : (handles : List Opened) (o : Option Job) (job : Job) (lines : List Standing) → o ≡ Some job → turn_of handles (option_map (λ (j : Job). j.line) o) lines ≡ TurnOf job.line (owner_at handles job.line lines) (next_at handles job.line lines)
-turn-is handles o job lines stands = ap (λ (t : Option ℕ). turn_of handles t lines) (line-is o job stands)
+pub turn-is : (shared : Shared) (o : Option Job) (job : Job) (lines : List Standing) → o ≡ Some job → turn_of shared (option_map (λ (j : Job). j.line) o) lines ≡ TurnOf job.line (owner_at shared job.line lines) (next_at shared job.line lines)
+turn-is shared o job lines stands = ap (λ (t : Option ℕ). turn_of shared t lines) (line-is o job stands)
 
 -- whose turn it is after the event, and how it stands
 pub record IsOpened (state : ClientState) (event : Event) : Type 0 where
@@ -166,9 +168,9 @@ pub record IsOpened (state : ClientState) (event : Event) : Type 0 where
   pub calls : IsFaithful state → calls_left line.request heard ≤ may_ask old line.request
   pub of_line : line_of state.jobs event ≡ Some n
   pub owner : Owner
-  pub turn : turn_at state event ≡ TurnOf n owner (next_of (handle_of line state.handles) line.request heard)
+  pub turn : turn_at state event ≡ TurnOf n owner (next_of (view_of state.shared line) line.request heard)
   pub now : IsOpen n line heard (lines_at state.lines state.jobs event) (jobs_at state.jobs event)
-  pub spent : IsFaithful state → total line_work (lines_at state.lines state.jobs event) + total job_work (jobs_at state.jobs event) + asked_work (next_of (handle_of line state.handles) line.request heard) < work_left state
+  pub spent : IsFaithful state → total line_work (lines_at state.lines state.jobs event) + total job_work (jobs_at state.jobs event) + asked_work (next_of (view_of state.shared line) line.request heard) < work_left state
 
 pub done-opens : (state : ClientState) (number position : ℕ) (answer : Brief) → IsAlive state → MayDone state number position answer → IsOpened state (Done number position answer)
 done-opens state number position answer alive may =
@@ -179,7 +181,7 @@ done-opens state number position answer alive may =
     let told : Told = told_by (question_of may.job.call) answer in
     let now = done-turn state number n may.from may.job told due alive may.stands out refl in
     let lines : List Standing = hears (job_at number state.jobs) answer state.lines in
-    let asked : IsFaithful state → next_of (handle_of due.line state.handles) due.line.request due.heard ≡ Asks may.job.call = λ faithful. sym (next_at-begun state.handles n due.line due.heard state.lines due.stands) ∙ faithful.makes number may.job may.stands (λ gone. absurd (cc)) in
+    let falls : IsFaithful state → calls_left due.line.request (with_told told due.heard) < calls_left due.line.request due.heard = λ faithful. faithful.falls number may.job may.stands (λ gone. absurd (cc)) (record { line = due.line; phase = Begun due.heard }) due.heard answer due.stands refl in
     let now_here = subst (λ (t : List Standing). IsOpen n due.line (with_told told due.heard) t (change_job number Gone state.jobs)) (sym hears_is) now in
     record {
       n = n;
@@ -192,14 +194,14 @@ done-opens state number position answer alive may =
       begins_own = refl;
       begins_other = λ m apart. refl;
       unanswered = refl;
-      calls = λ faithful. let falls = calls_left_fall (handle_of due.line state.handles) due.line.request due.heard may.job.call answer (asked faithful) in omega arith;
+      calls = λ faithful. let fewer = falls faithful in omega arith;
       of_line = line-is (job_at number state.jobs) may.job may.stands;
-      owner = owner_at state.handles n lines;
-      turn = turn-is state.handles (job_at number state.jobs) may.job lines may.stands ∙ turn-begun state.handles n due.line (with_told told due.heard) lines now_here.stands;
+      owner = owner_at state.shared n lines;
+      turn = turn-is state.shared (job_at number state.jobs) may.job lines may.stands ∙ turn-begun state.shared n due.line (with_told told due.heard) lines now_here.stands;
       now = now_here;
       spent = λ faithful.
           let same : total line_work lines ≡ total line_work (change_line n (heard told) state.lines) = ap (total line_work) hears_is in
-          let lines_less = heard-work 0 n (handle_of due.line state.handles) due.line due.heard may.job.call answer state.lines (Rises-lines 0 state.lines alive.rising) due.stands (asked faithful) in
+          let lines_less = heard-work 0 n (view_of state.shared due.line) due.line due.heard may.job.call answer state.lines (Rises-lines 0 state.lines alive.rising) due.stands (falls faithful) in
           let jobs_less = gone-work 0 number may.from may.job state.jobs (Rises-jobs 0 state.jobs alive.numbered) may.stands out in
           omega arith;
     }
@@ -222,10 +224,10 @@ begin-opens state n time alive may =
       unanswered = refl;
       calls = λ faithful. omega arith;
       of_line = refl;
-      owner = owner_at state.handles n lines;
-      turn = turn-begun state.handles n found.line nothing_heard lines now.stands;
+      owner = owner_at state.shared n lines;
+      turn = turn-begun state.shared n found.line nothing_heard lines now.stands;
       now = now;
-      spent = λ faithful. let less = begin-work 0 n (handle_of found.line state.handles) found.line state.lines (Rises-lines 0 state.lines alive.rising) found.stands in omega arith;
+      spent = λ faithful. let less = begin-work 0 n (view_of state.shared found.line) found.line state.lines (Rises-lines 0 state.lines alive.rising) found.stands in omega arith;
     }
 
 -- each line is served after the step's own asks and replies
@@ -237,7 +239,7 @@ asked-own state event opened asks = ap (λ (o : Option ℕ). jobs_asked state.li
 turn-closes : (state : ClientState) (event : Event) (asks : List Ask) (own : List Answered) → length (jobs_at state.jobs event) ≡ length state.jobs → IsOpened state event → TakesTurn (length state.jobs + 1) (turn_at state event) asks own → IsClosed (with_replies (lines_at state.lines state.jobs event) own) (jobs_at state.jobs event ++ jobs_asked state.lines (line_of state.jobs event) asks)
 turn-closes state event asks own same opened takes =
     subst (λ (t : List Job). IsClosed (with_replies (lines_at state.lines state.jobs event) own) (jobs_at state.jobs event ++ t)) (sym (asked-own state event opened asks))
-    (close-turn opened.n (length state.jobs) opened.owner (handle_of opened.line state.handles) opened.line opened.heard state.lines (lines_at state.lines state.jobs event) (jobs_at state.jobs event) asks own opened.now (sym same) (subst (λ (t : Turn). TakesTurn (length state.jobs + 1) t asks own) opened.turn takes))
+    (close-turn opened.n (length state.jobs) opened.owner (view_of state.shared opened.line) opened.line opened.heard state.lines (lines_at state.lines state.jobs event) (jobs_at state.jobs event) asks own opened.now (sym same) (subst (λ (t : Turn). TakesTurn (length state.jobs + 1) t asks own) opened.turn takes))
 
 closed-take : (state : ClientState) (number time from : ℕ) (own : List Answered) → IsAlive state → is_among number (ready state.jobs) ≡ true → own ≡ [] → IsClosed (with_replies state.lines own) (change_job number (Out from) state.jobs ++ [])
 closed-take state number time from own alive may no_own =
@@ -260,18 +262,18 @@ pub alive-step : (state : ClientState) (step : Step) → IsAlive state → IsLeg
 alive-step state step alive legal =
     let lines : List Standing = with_replies (lines_at state.lines state.jobs step.event) legal.own in
     let jobs : List Job = jobs_at state.jobs step.event ++ jobs_asked state.lines (line_of state.jobs step.event) step.asks in
-    let handles : List Opened = handles_after state.handles (lines_at state.lines state.jobs step.event) step.replies in
+    let shared : Shared = shared_after state.shared (lines_at state.lines state.jobs step.event) step.replies in
     let closed = closed-event state step.event step.asks legal.own alive legal.may_come legal.turn in
     let same : with_replies (lines_at state.lines state.jobs step.event) step.replies ≡ with_replies lines (due_awaits lines) = ap (with_replies (lines_at state.lines state.jobs step.event)) legal.replies ∙ with_replies-append (lines_at state.lines state.jobs step.event) legal.own (due_awaits lines) in
-    subst (λ (t : List Standing). IsAlive (record { time = time_after state.time step.event; lines = t; jobs = jobs; positions = positions_after state.positions step.event; handles = handles })) (sym same)
-    (settle (time_after state.time step.event) lines jobs (positions_after state.positions step.event) handles closed)
+    subst (λ (t : List Standing). IsAlive (record { time = time_after state.time step.event; lines = t; jobs = jobs; positions = positions_after state.positions step.event; shared = shared })) (sym same)
+    (settle (time_after state.time step.event) lines jobs (positions_after state.positions step.event) shared closed)
 
 pub alive-steps : (state : ClientState) (steps : List Step) → IsAlive state → Along IsLegalStep after state steps → IsAlive (fold after state steps)
 alive-steps state [] alive run = alive
 alive-steps state (step ∷ steps) alive run = alive-steps (after state step) steps (alive-step state step alive run.0) run.1
 
-pub alive : (script : List Line) (steps : List Step) → AreRising 0 script → IsRunSoFar script steps → IsAlive (state_after script steps)
-alive script steps rising run = alive-steps (opening script) steps (opening-alive script rising) run
+pub alive : (options : Opts) (script : List Line) (steps : List Step) → AreRising 0 script → IsRunSoFar options script steps → IsAlive (state_after options script steps)
+alive options script steps rising run = alive-steps (opening options script) steps (opening-alive options script rising) run
 
 -- each legal step leaves less to do
 
@@ -285,7 +287,7 @@ event-take-work state number time from own alive may no_own =
 turn-spends : (state : ClientState) (event : Event) (asks : List Ask) (own : List Answered) → IsFaithful state → IsOpened state event → TakesTurn (length state.jobs + 1) (turn_at state event) asks own → total line_work (with_replies (lines_at state.lines state.jobs event) own) + total job_work (jobs_at state.jobs event ++ jobs_asked state.lines (line_of state.jobs event) asks) < work_left state
 turn-spends state event asks own faithful opened takes =
     let asked : total job_work (jobs_at state.jobs event ++ jobs_asked state.lines (line_of state.jobs event) asks) ≡ total job_work (jobs_at state.jobs event ++ map (job_of state.lines opened.n) asks) = ap (λ (t : List Job). total job_work (jobs_at state.jobs event ++ t)) (asked-own state event opened asks) in
-    let left = turn-work opened.n (length state.jobs + 1) opened.owner (handle_of opened.line state.handles) opened.line opened.heard state.lines (lines_at state.lines state.jobs event) (jobs_at state.jobs event) asks own opened.now (subst (λ (t : Turn). TakesTurn (length state.jobs + 1) t asks own) opened.turn takes) in
+    let left = turn-work opened.n (length state.jobs + 1) opened.owner (view_of state.shared opened.line) opened.line opened.heard state.lines (lines_at state.lines state.jobs event) (jobs_at state.jobs event) asks own opened.now (subst (λ (t : Turn). TakesTurn (length state.jobs + 1) t asks own) opened.turn takes) in
     let spent = opened.spent faithful in
     omega arith
 

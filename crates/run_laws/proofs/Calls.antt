@@ -1,9 +1,10 @@
 -- A line asks for no more jobs than its request has calls.
 use Rattle.std.proofs.Common.{◌≡◌, ℕ, ◌+◌, ◌-◌, ◌≤◌, List, [], ◌∷◌, ◌++◌, map, fold, length, cond, Bool, true, false, ◌==◌, if◌then◌else◌, Some, inl, inr, append-nil, refl, sym, ap, ◌∙◌, subst, subst₂, arith, eq-eqb, ne_eqb}
 use Rattle.std.specs.List.{AllByRecursion}
+use Rattle.mp_types.specs.declared.options.Opts.{Opts}
 use Rattle.bucket_model.specs.Along.{Along}
 use Rattle.mount_model.specs.declared.request.Request.{Request}
-use Rattle.mount_model.specs.declared.request.Request.TheVariants.{Put, Await, Stat, OpenRead, Read, Close, Delete}
+use Rattle.mount_model.specs.declared.request.Request.TheVariants.{Put, Await, Stat, OpenRead, Read, Close, Delete, MakeDir, RemoveDir, Unlink}
 use Rattle.mount_model.specs.declared.request.Line.{Line}
 use Rattle.mount_model.specs.declared.event.Event.{Event}
 use Rattle.mount_model.specs.declared.event.Event.TheVariants.{Begin, Take, Done}
@@ -14,9 +15,8 @@ use Rattle.mount_model.specs.declared.standing.Phase.TheVariants.{Waiting, Begun
 use Rattle.mount_model.specs.declared.standing.Standing.{Standing}
 use Rattle.mount_model.specs.Heard.{nothing_heard}
 use Rattle.mount_model.specs.Step.{Step}
-use Rattle.mount_model.specs.State.{ClientState, Job, JobPhase, Out, Gone, line_at, change_line, change_job, lines_at, jobs_at, line_of, job_of, jobs_asked, with_replies, opening, after, state_after}
-use Rattle.mount_model.specs.Conversation.{Next, Asks, Replies, Opens, Gives, Waits, next_of}
-use Rattle.mount_model.specs.Handles.{handle_of}
+use Rattle.mount_model.specs.State.{ClientState, Job, JobPhase, Out, Gone, line_at, change_line, change_job, lines_at, jobs_at, line_of, job_of, jobs_asked, with_replies, view_of, opening, after, state_after}
+use Rattle.mount_model.specs.Conversation.{Next, Asks, Replies, Makes, Removes, Opens, Gives, Waits, next_of}
 use Rattle.mount_model.specs.Run.{AreRising, MayCome, TakesTurn, Turn, TurnOf, turn_at, asked_of, due_awaits, IsLegalStep, IsRunSoFar}
 use Rattle.run_laws.specs.Alive.{IsAlive}
 use Rattle.run_laws.specs.Faithful.{IsFaithful}
@@ -69,6 +69,9 @@ settled-may-cons m number actor (OpenRead name path) (Begun heard) lines e = ref
 settled-may-cons m number actor (Read name offset count) (Begun heard) lines e = refl
 settled-may-cons m number actor (Close name) (Begun heard) lines e = refl
 settled-may-cons m number actor (Delete key) (Begun heard) lines e = refl
+settled-may-cons m number actor (MakeDir path) (Begun heard) lines e = refl
+settled-may-cons m number actor (RemoveDir path) (Begun heard) lines e = refl
+settled-may-cons m number actor (Unlink path) (Begun heard) lines e = refl
 settled-may-cons m number actor request Replied lines e = go (number == m)
   where
     go : (b : Bool) → line_may_ask (cond b (Some (standing number actor request Replied)) (line_at m (settled lines))) ≡ line_may_ask (cond b (Some (standing number actor request Replied)) (line_at m lines))
@@ -84,8 +87,8 @@ settled-may m (s ∷ lines) = settled-may-cons m s.line.number s.line.actor s.li
 abbrev Turns : ClientState → Event → ℕ → ℕ → List Ask → List Answered → Type 0
 Turns state event n m asks own = Spends m state.lines (with_replies (lines_at state.lines state.jobs event) own) state.jobs (jobs_at state.jobs event ++ map (job_of state.lines n) asks)
 
-own-spends : (state : ClientState) (event : Event) (asks : List Ask) (own : List Answered) → IsFaithful state → (opened : IsOpened state event) → TakesTurn (length state.jobs + 1) (TurnOf opened.n opened.owner (next_of (handle_of opened.line state.handles) opened.line.request opened.heard)) asks own → Turns state event opened.n opened.n asks own
-own-spends state event asks own faithful opened turn = go (next_of (handle_of opened.line state.handles) opened.line.request opened.heard) refl turn
+own-spends : (state : ClientState) (event : Event) (asks : List Ask) (own : List Answered) → IsFaithful state → (opened : IsOpened state event) → TakesTurn (length state.jobs + 1) (TurnOf opened.n opened.owner (next_of (view_of state.shared opened.line) opened.line.request opened.heard)) asks own → Turns state event opened.n opened.n asks own
+own-spends state event asks own faithful opened turn = go (next_of (view_of state.shared opened.line) opened.line.request opened.heard) refl turn
   where
     n : ℕ
     n = opened.n
@@ -117,22 +120,25 @@ own-spends state event asks own faithful opened turn = go (next_of (handle_of op
     spends_by : (asked : List Ask) (replied : List Answered) → asks ≡ asked → own ≡ replied → Turns state event n n asked replied → Turns state event n n asks own
     spends_by asked replied e f spends = subst₂ (λ (x : List Ask) (y : List Answered). Turns state event n n x y) (sym e) (sym f) spends
 
-    go : (next : Next) → next_of (handle_of opened.line state.handles) opened.line.request opened.heard ≡ next → TakesTurn (length state.jobs + 1) (TurnOf n opened.owner next) asks own → Turns state event n n asks own
+    go : (next : Next) → next_of (view_of state.shared opened.line) opened.line.request opened.heard ≡ next → TakesTurn (length state.jobs + 1) (TurnOf n opened.owner next) asks own → Turns state event n n asks own
     go (Asks called) is (inl t) =
-        let some = asks-left (handle_of opened.line state.handles) opened.line.request opened.heard called is in
+        let some = asks-left (view_of state.shared opened.line) opened.line.request opened.heard called is in
         let ask : Ask = record { job = length state.jobs + 1; owner = opened.owner; call = asked_of called } in
         let one : job_for n (job_of state.lines n ask) ≡ 1 = rw same refl in
         let sum = total-append (job_for n) (jobs_at state.jobs event) (job_of state.lines n ask ∷ []) in
         spends_by _ _ t.0 t.1 (record { spent = omega (arith, old, now, calls, kept) })
     go (Asks called) is (inr t) = spends_by _ _ t.0 t.1 (record { spent = omega (arith, done, none) })
     go (Replies said) is t = spends_by _ _ t.0 t.1 (record { spent = omega (arith, done, none) })
+    go (Makes key) is (inl t) = spends_by _ _ t.0 t.1 (record { spent = omega (arith, done, none) })
+    go (Makes key) is (inr t) = spends_by _ _ t.0 t.1 (record { spent = omega (arith, done, none) })
+    go (Removes key) is t = spends_by _ _ t.0 t.1 (record { spent = omega (arith, done, none) })
     go (Opens version) is (inl t) = spends_by _ _ t.0 t.1 (record { spent = omega (arith, done, none) })
     go (Opens version) is (inr t) = spends_by _ _ t.0 t.1 (record { spent = omega (arith, done, none) })
     go (Gives count) is t = spends_by _ _ t.2.0 t.2.1 (record { spent = omega (arith, done, none) })
     go Waits is t = spends_by _ _ t.0 t.1 (record { spent = omega (arith, old, now, calls, none) })
 
-other-spends : (state : ClientState) (event : Event) (asks : List Ask) (own : List Answered) → (opened : IsOpened state event) → TakesTurn (length state.jobs + 1) (TurnOf opened.n opened.owner (next_of (handle_of opened.line state.handles) opened.line.request opened.heard)) asks own → (m : ℕ) → (m ≡ opened.n → ⊥) → Turns state event opened.n m asks own
-other-spends state event asks own opened turn m apart = go (next_of (handle_of opened.line state.handles) opened.line.request opened.heard) turn
+other-spends : (state : ClientState) (event : Event) (asks : List Ask) (own : List Answered) → (opened : IsOpened state event) → TakesTurn (length state.jobs + 1) (TurnOf opened.n opened.owner (next_of (view_of state.shared opened.line) opened.line.request opened.heard)) asks own → (m : ℕ) → (m ≡ opened.n → ⊥) → Turns state event opened.n m asks own
+other-spends state event asks own opened turn m apart = go (next_of (view_of state.shared opened.line) opened.line.request opened.heard) turn
   where
     n : ℕ
     n = opened.n
@@ -166,6 +172,9 @@ other-spends state event asks own opened turn m apart = go (next_of (handle_of o
         spends_by _ _ t.0 t.1 (record { spent = omega (arith, now, kept) })
     go (Asks called) (inr t) = spends_by _ _ t.0 t.1 (record { spent = omega (arith, done, none) })
     go (Replies said) t = spends_by _ _ t.0 t.1 (record { spent = omega (arith, done, none) })
+    go (Makes key) (inl t) = spends_by _ _ t.0 t.1 (record { spent = omega (arith, done, none) })
+    go (Makes key) (inr t) = spends_by _ _ t.0 t.1 (record { spent = omega (arith, done, none) })
+    go (Removes key) t = spends_by _ _ t.0 t.1 (record { spent = omega (arith, done, none) })
     go (Opens version) (inl t) = spends_by _ _ t.0 t.1 (record { spent = omega (arith, done, none) })
     go (Opens version) (inr t) = spends_by _ _ t.0 t.1 (record { spent = omega (arith, done, none) })
     go (Gives count) t = spends_by _ _ t.2.0 t.2.1 (record { spent = omega (arith, done, none) })
@@ -207,21 +216,21 @@ steps-spend state (step ∷ steps) m alive faithful run =
     let more = (steps-spend (after state step) steps m (alive-step state step alive run.0) (faithful-step state step alive faithful run.0) run.1).spent in
     record { spent = omega arith }
 
-opening-waits : (script : List Line) → AllByRecursion (λ s. s.phase ≡ Waiting) (opening script).lines
-opening-waits [] = tt
-opening-waits (line ∷ script) = (refl, opening-waits script)
+opening-waits : (options : Opts) (script : List Line) → AllByRecursion (λ s. s.phase ≡ Waiting) (opening options script).lines
+opening-waits options [] = tt
+opening-waits options (line ∷ script) = (refl, opening-waits options script)
 
-pub calls_bound : (script : List Line) (steps : List Step) → AreRising 0 script → IsRunSoFar script steps → AllByRecursion (λ line. jobs_of line.number (state_after script steps).jobs ≤ calls_left line.request nothing_heard) script
-calls_bound script steps rising run =
-    let lines : List Standing = (opening script).lines in
-    let jobs : List Job = (state_after script steps).jobs in
-    let is_alive = opening-alive script rising in
+pub calls_bound : (options : Opts) (script : List Line) (steps : List Step) → AreRising 0 script → IsRunSoFar options script steps → AllByRecursion (λ line. jobs_of line.number (state_after options script steps).jobs ≤ calls_left line.request nothing_heard) script
+calls_bound options script steps rising run =
+    let lines : List Standing = (opening options script).lines in
+    let jobs : List Job = (state_after options script steps).jobs in
+    let is_alive = opening-alive options script rising in
     let one : (n : ℕ) (s : Standing) → line_at n lines ≡ Some s → jobs_of s.line.number jobs ≤ calls_left s.line.request nothing_heard = λ n s e.
     let number : s.line.number ≡ n = item_at-key number_of n lines s e in
-    let waits : s.phase ≡ Waiting = found-one (λ s. s.phase ≡ Waiting) n lines s (opening-waits script) e in
-    let spent = (steps-spend (opening script) steps n is_alive (opening-faithful script) run).spent in
+    let waits : s.phase ≡ Waiting = found-one (λ s. s.phase ≡ Waiting) n lines s (opening-waits options script) e in
+    let spent = (steps-spend (opening options script) steps n is_alive (opening-faithful options script) run).spent in
     let all : line_may_ask (line_at n lines) ≡ calls_left s.line.request nothing_heard = ap line_may_ask e ∙ ap (λ (p : Phase). may_ask p s.line.request) waits in
     let count : jobs_of s.line.number jobs ≡ jobs_of n jobs = ap (λ (k : ℕ). jobs_of k jobs) number in
     omega arith in
-    subst (λ (t : List Line). AllByRecursion (λ line. jobs_of line.number jobs ≤ calls_left line.request nothing_heard) t) (lines-opening script)
+    subst (λ (t : List Line). AllByRecursion (λ line. jobs_of line.number jobs ≤ calls_left line.request nothing_heard) t) (lines-opening options script)
     (each-map (λ line. jobs_of line.number jobs ≤ calls_left line.request nothing_heard) lines (each-line (λ s. jobs_of s.line.number jobs ≤ calls_left s.line.request nothing_heard) 0 lines (Rises-lines 0 lines is_alive.rising) one))

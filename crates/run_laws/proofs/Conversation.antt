@@ -2,35 +2,40 @@
 -- and fewer calls are left with each answer to one.
 use Rattle.std.proofs.Common.{◌≡◌, ◌≢◌, ℕ, ◌+◌, ◌*◌, ◌<◌, ◌≤◌, min, List, [], ◌∷◌, length, Bool, true, false, ◌||◌, ◌==◌, nat_le, if◌then◌else◌, Option, Some, None, Result, Ok, Err, refl, ap, subst, arith}
 use Rattle.std.proofs.lemmas.Bool.{eqb-false, leb-false}
+use Rattle.mp_types.specs.declared.errno.Errno.TheVariants.{Eperm, Eexist, Eisdir, Emfile, Enotempty}
 use Rattle.mp_types.specs.declared.path.PathFault.{PathFault}
 use Rattle.mp_types.specs.Content.{bytes_of}
 use Rattle.mp_types.specs.declared.octets.Data.{Data}
 use Rattle.mp_types.specs.Path.{path_of, joined}
+use Rattle.mp_types.specs.HandleName.{max_handles}
 use Rattle.mp_rules.specs.declared.entry.Entry.{Entry}
-use Rattle.mp_rules.specs.declared.entry.Entry.TheVariants.{Directory, File, Nothing}
+use Rattle.mp_rules.specs.declared.entry.Entry.TheVariants.{RemoteDir, LocalDir, File, Nothing}
+use Rattle.mp_rules.specs.declared.entry.Local.{Local}
 use Rattle.mp_rules.specs.declared.facts.Question.{Question}
 use Rattle.mp_rules.specs.declared.facts.Question.TheVariants as question
 use Rattle.mp_rules.specs.declared.facts.Fact.{Fact}
 use Rattle.mp_rules.specs.declared.facts.Fact.TheVariants as fact
 use Rattle.mp_rules.specs.declared.facts.Known.{Known}
-use Rattle.mp_rules.specs.Walk.{fact_in, Decision, Need, Is, Refused, stands_at}
+use Rattle.mp_rules.specs.Walk.{fact_in, Decision, Need, Is, Refused, walk}
+use Rattle.mp_rules.specs.Local.{LocalNames, local_at, has_name_below}
 use Rattle.bucket_model.specs.declared.call.Call.{Call}
 use Rattle.bucket_model.specs.declared.call.Call.TheVariants as call
 use Rattle.bucket_model.specs.Answers.{MayBeMade}
 use Rattle.bucket_model.specs.declared.answer.Brief.{Brief}
 use Rattle.bucket_model.specs.declared.answer.Brief.TheVariants.{Found, Missing, Yes, No, Bytes, Changed, Gone, Made, Fault, NoMemory}
 use Rattle.mount_model.specs.declared.request.Request.{Request}
-use Rattle.mount_model.specs.declared.request.Request.TheVariants.{Put, Await, Stat, OpenRead, Read, Close, Delete}
+use Rattle.mount_model.specs.declared.request.Request.TheVariants.{Put, Await, Stat, OpenRead, Read, Close, Delete, MakeDir, RemoveDir, Unlink}
 use Rattle.mount_model.specs.declared.request.Reply.{Reply}
 use Rattle.mount_model.specs.declared.request.Reply.TheVariants as reply
 use Rattle.mount_model.specs.declared.handle.Handle.{Handle}
 use Rattle.mount_model.specs.declared.handle.Version.{Version}
 use Rattle.mount_model.specs.declared.standing.Heard.{Heard}
 use Rattle.mount_model.specs.Heard.{nothing_heard, with_told, call_of, question_of, fact_of, told_from, told_by}
-use Rattle.mount_model.specs.Conversation.{Next, Asks, Replies, Opens, Gives, Waits, Range, range_in, put_next, delete_next, at_path, stat_at, stat_next, open_at, open_next, range_next, read_next, close_next, next_of}
+use Rattle.mount_model.specs.Conversation.{Next, Asks, Replies, Makes, Removes, Opens, Gives, Waits, View, Range, range_in, fails, put_next, delete_next, at_path, along, stat_at, stat_next, open_at, open_next, make_at, make_next, remove_at, remove_next, unlink_at, unlink_next, range_next, read_next, close_next, next_of}
 use Rattle.mount_model.specs.State.{content_in}
 use Rattle.run_laws.specs.Alive.{jobs_at_once}
 use Rattle.run_laws.specs.Work.{one_left, path_left, calls_left}
+pub use Rattle.run_laws.specs.Faithful.{IsRead}
 use Rattle.run_laws.proofs.Questions.{path-falls, path-most}
 
 -- a put stores this content
@@ -40,15 +45,6 @@ Puts content (call.Probe key) = Unit {0}
 Puts content (call.Get key etag from to) = Unit {0}
 Puts content (call.Delete key) = Unit {0}
 Puts content (call.Put key bytes) = bytes ≡ content
-
-abbrev pub IsRead : Request → Type 0
-IsRead (Read name offset count) = Unit {0}
-IsRead (Put key content) = ⊥
-IsRead Await = ⊥
-IsRead (Stat path) = ⊥
-IsRead (OpenRead name path) = ⊥
-IsRead (Close name) = ⊥
-IsRead (Delete key) = ⊥
 
 -- a reply without data
 abbrev pub IsPlain : Reply → Type 0
@@ -70,6 +66,8 @@ Falls left heard called = (answer : Brief) → left (with_told (told_by (questio
 abbrev pub SpeaksWith : Request → (Heard → ℕ) → Heard → Next → Type 0
 SpeaksWith request left heard (Asks called) = Falls left heard called × MayBeMade called × Puts (content_in request) called
 SpeaksWith request left heard (Replies said) = IsPlain said
+SpeaksWith request left heard (Makes key) = Unit {0}
+SpeaksWith request left heard (Removes key) = Unit {0}
 SpeaksWith request left heard (Opens version) = Unit {0}
 SpeaksWith request left heard (Gives count) = IsRead request
 SpeaksWith request left heard Waits = ⊥
@@ -94,46 +92,104 @@ put-speaks key content facts (Made etag ∷ answers) = tt
 put-speaks key content facts (Fault ∷ answers) = tt
 put-speaks key content facts (NoMemory ∷ answers) = tt
 
--- what stands at a path ends the request
-abbrev Ends : Request → (Entry → Next) → Type 0
-Ends request at = (left : Heard → ℕ) (heard : Heard) (entry : Entry) → SpeaksWith request left heard (at entry)
+-- what stands at a path ends the request, or asks for a call that leaves fewer
+abbrev Ends : Request → (Heard → ℕ) → (Entry → Next) → Type 0
+Ends request left at = (facts : List Known) (entry : Entry) → SpeaksWith request left (heard_of facts []) (at entry)
 
-stat-ends : (request : Request) → Ends request stat_at
-stat-ends request left heard Directory = tt
-stat-ends request left heard (File etag size) = tt
-stat-ends request left heard Nothing = tt
+stat-ends : (request : Request) (left : Heard → ℕ) → Ends request left stat_at
+stat-ends request left facts RemoteDir = tt
+stat-ends request left facts LocalDir = tt
+stat-ends request left facts (File etag size) = tt
+stat-ends request left facts Nothing = tt
 
-open-ends : (request : Request) (key : List ℕ) → Ends request (open_at key)
-open-ends request key left heard Directory = tt
-open-ends request key left heard (File etag size) = tt
-open-ends request key left heard Nothing = tt
+open-ends : (request : Request) (left : Heard → ℕ) (live : ℕ) (key : List ℕ) → Ends request left (open_at live key)
+open-ends request left live key facts RemoteDir = tt
+open-ends request left live key facts LocalDir = tt
+open-ends request left live key facts (File etag size) = go (live == max_handles)
+  where
+    go : (full : Bool) → SpeaksWith request left (heard_of facts []) (if full then fails Emfile else Opens (record { key = key; etag = etag; size = size }))
+    go true = tt
+    go false = tt
+open-ends request left live key facts Nothing = tt
+
+make-ends : (request : Request) (left : Heard → ℕ) (key : List ℕ) → Ends request left (make_at key)
+make-ends request left key facts RemoteDir = tt
+make-ends request left key facts LocalDir = tt
+make-ends request left key facts (File etag size) = tt
+make-ends request left key facts Nothing = tt
+
+remove-ends : (request : Request) (left : Heard → ℕ) (names : LocalNames) (key : List ℕ) → Ends request left (remove_at names key)
+remove-ends request left names key facts RemoteDir = tt
+remove-ends request left names key facts LocalDir = go (has_name_below names key)
+  where
+    go : (some : Bool) → SpeaksWith request left (heard_of facts []) (if some then fails Enotempty else Removes key)
+    go true = tt
+    go false = tt
+remove-ends request left names key facts (File etag size) = tt
+remove-ends request left names key facts Nothing = tt
+
+unlink-ends : (request : Request) (may_delete : Bool) (key : List ℕ) (names : List (List ℕ)) → Ends request (path_left 1 (Ok names)) (unlink_at may_delete key)
+unlink-ends request may_delete key names facts RemoteDir = tt
+unlink-ends request may_delete key names facts LocalDir = tt
+unlink-ends request true key names facts (File etag size) = (λ answer. omega arith, tt, tt)
+unlink-ends request false key names facts (File etag size) = tt
+unlink-ends request may_delete key names facts Nothing = tt
 
 -- the answer to a question on the way is one more fact, or the question failed
-asked-falls : (names : List (List ℕ)) (facts : List Known) (question : Question) → stands_at (fact_in facts) names ≡ Need question → (o : Option Fact) (answer : Brief) → path_left (Ok names) (with_told (told_from (Some question) o answer) (heard_of facts [])) < path_left (Ok names) (heard_of facts [])
-asked-falls names facts question asks None answer = let some = path-falls facts names question fact.No asks in omega arith
-asked-falls names facts question asks (Some told) answer = path-falls facts names question told asks
+asked-falls : (behind : ℕ) (local : List ℕ → Local) (name : List ℕ) (names : List (List ℕ)) (facts : List Known) (question : Question) → walk (fact_in facts) local name names ≡ Need question → (o : Option Fact) (answer : Brief) → path_left behind (Ok (name ∷ names)) (with_told (told_from (Some question) o answer) (heard_of facts [])) < path_left behind (Ok (name ∷ names)) (heard_of facts [])
+asked-falls behind local name names facts question asks None answer = let some = path-falls facts local name names question fact.No asks in omega arith
+asked-falls behind local name names facts question asks (Some told) answer = let some = path-falls facts local name names question told asks in omega arith
 
-need-speaks : (request : Request) (names : List (List ℕ)) (facts : List Known) (question : Question) → stands_at (fact_in facts) names ≡ Need question → SpeaksWith request (path_left (Ok names)) (heard_of facts []) (Asks (call_of question))
-need-speaks request names facts (question.Head key) asks = (λ answer. asked-falls names facts (question.Head key) asks (fact_of answer) answer, tt, tt)
-need-speaks request names facts (question.Probe key) asks = (λ answer. asked-falls names facts (question.Probe key) asks (fact_of answer) answer, tt, tt)
+need-speaks : (request : Request) (behind : ℕ) (local : List ℕ → Local) (name : List ℕ) (names : List (List ℕ)) (facts : List Known) (question : Question) → walk (fact_in facts) local name names ≡ Need question → SpeaksWith request (path_left behind (Ok (name ∷ names))) (heard_of facts []) (Asks (call_of question))
+need-speaks request behind local name names facts (question.Head key) asks = (λ answer. asked-falls behind local name names facts (question.Head key) asks (fact_of answer) answer, tt, tt)
+need-speaks request behind local name names facts (question.Probe key) asks = (λ answer. asked-falls behind local name names facts (question.Probe key) asks (fact_of answer) answer, tt, tt)
 
-names-speak : (request : Request) (at : Entry → Next) → Ends request at → (names : List (List ℕ)) (facts : List Known) (answers : List Brief) → SpeaksWith request (path_left (Ok names)) (heard_of facts answers) (at_path at (stands_at (fact_in facts) names) answers)
-names-speak request at ends names facts (answer ∷ answers) = tt
-names-speak request at ends names facts [] = go (stands_at (fact_in facts) names) refl
+names-speak : (request : Request) (behind : ℕ) (view : View) (root : Reply) (at : Entry → Next) (names : List (List ℕ)) → IsPlain root → Ends request (path_left behind (Ok names)) at → (facts : List Known) (answers : List Brief) → SpeaksWith request (path_left behind (Ok names)) (heard_of facts answers) (along view (Replies root) at names (heard_of facts answers))
+names-speak request behind view root at [] plain ends facts answers = plain
+names-speak request behind view root at (name ∷ names) plain ends facts (answer ∷ answers) = tt
+names-speak request behind view root at (name ∷ names) plain ends facts [] = go (walk (fact_in facts) (local_at view.names) name names) refl
   where
-    go : (decision : Decision) → stands_at (fact_in facts) names ≡ decision → SpeaksWith request (path_left (Ok names)) (heard_of facts []) (at_path at decision [])
-    go (Need question) is = need-speaks request names facts question is
-    go (Is entry) is = ends (path_left (Ok names)) (heard_of facts []) entry
+    go : (decision : Decision) → walk (fact_in facts) (local_at view.names) name names ≡ decision → SpeaksWith request (path_left behind (Ok (name ∷ names))) (heard_of facts []) (at_path at decision [])
+    go (Need question) is = need-speaks request behind (local_at view.names) name names facts question is
+    go (Is entry) is = ends facts entry
     go (Refused errno) is = tt
 
-stat-speaks : (request : Request) (path : Result (List (List ℕ)) PathFault) (heard : Heard) → SpeaksWith request (path_left path) heard (stat_next path heard)
-stat-speaks request (Err why) heard = tt
-stat-speaks request (Ok names) heard = names-speak request stat_at (stat-ends request) names heard.facts heard.answers
+stat-speaks : (request : Request) (view : View) (path : Result (List (List ℕ)) PathFault) (heard : Heard) → SpeaksWith request (path_left 0 path) heard (stat_next view path heard)
+stat-speaks request view (Err why) heard = tt
+stat-speaks request view (Ok names) heard = names-speak request 0 view reply.Directory stat_at names tt (stat-ends request (path_left 0 (Ok names))) heard.facts heard.answers
 
-open-speaks : (request : Request) (live : Option Handle) (path : Result (List (List ℕ)) PathFault) (heard : Heard) → SpeaksWith request (path_left path) heard (open_next live path heard)
-open-speaks request live (Err why) heard = tt
-open-speaks request (Some handle) (Ok names) heard = tt
-open-speaks request None (Ok names) heard = names-speak request (open_at (joined names)) (open-ends request (joined names)) names heard.facts heard.answers
+open-speaks : (request : Request) (view : View) (live : Option Handle) (path : Result (List (List ℕ)) PathFault) (heard : Heard) → SpeaksWith request (path_left 0 path) heard (open_next view live path heard)
+open-speaks request view live (Err why) heard = tt
+open-speaks request view (Some handle) (Ok names) heard = tt
+open-speaks request view None (Ok names) heard = names-speak request 0 view (reply.Failed Eisdir) (open_at view.live (joined names)) names tt (open-ends request (path_left 0 (Ok names)) view.live (joined names)) heard.facts heard.answers
+
+make-speaks : (request : Request) (view : View) (path : Result (List (List ℕ)) PathFault) (heard : Heard) → SpeaksWith request (path_left 0 path) heard (make_next view path heard)
+make-speaks request view (Err why) heard = tt
+make-speaks request view (Ok names) heard = names-speak request 0 view (reply.Failed Eexist) (make_at (joined names)) names tt (make-ends request (path_left 0 (Ok names)) (joined names)) heard.facts heard.answers
+
+remove-speaks : (request : Request) (view : View) (path : Result (List (List ℕ)) PathFault) (heard : Heard) → SpeaksWith request (path_left 0 path) heard (remove_next view path heard)
+remove-speaks request view (Err why) heard = tt
+remove-speaks request view (Ok names) heard = names-speak request 0 view (reply.Failed Eperm) (remove_at view.names (joined names)) names tt (remove-ends request (path_left 0 (Ok names)) view.names (joined names)) heard.facts heard.answers
+
+unlink-speaks : (request : Request) (view : View) (path : Result (List (List ℕ)) PathFault) (heard : Heard) → SpeaksWith request (path_left 1 path) heard (unlink_next view path heard)
+unlink-speaks request view (Err why) heard = tt
+unlink-speaks request view (Ok names) heard = go heard.facts heard.answers
+  where
+    along_names : (facts : List Known) (answers : List Brief) → SpeaksWith request (path_left 1 (Ok names)) (heard_of facts answers) (along view (fails Eisdir) (unlink_at view.options.allow_delete (joined names)) names (heard_of facts answers))
+    along_names facts answers = names-speak request 1 view (reply.Failed Eisdir) (unlink_at view.options.allow_delete (joined names)) names tt (unlink-ends request view.options.allow_delete (joined names) names) facts answers
+
+    go : (facts : List Known) (answers : List Brief) → SpeaksWith request (path_left 1 (Ok names)) (heard_of facts answers) (unlink_next view (Ok names) (heard_of facts answers))
+    go facts [] = along_names facts []
+    go facts (Found etag size ∷ answers) = along_names facts (Found etag size ∷ answers)
+    go facts (Missing ∷ answers) = along_names facts (Missing ∷ answers)
+    go facts (Yes ∷ answers) = along_names facts (Yes ∷ answers)
+    go facts (No ∷ answers) = along_names facts (No ∷ answers)
+    go facts (Bytes count ∷ answers) = along_names facts (Bytes count ∷ answers)
+    go facts (Changed ∷ answers) = along_names facts (Changed ∷ answers)
+    go facts (Gone ∷ answers) = tt
+    go facts (Made etag ∷ answers) = along_names facts (Made etag ∷ answers)
+    go facts (Fault ∷ answers) = along_names facts (Fault ∷ answers)
+    go facts (NoMemory ∷ answers) = along_names facts (NoMemory ∷ answers)
 
 -- a range has a byte
 pub range_some : (offset count size : ℕ) (range : Range) → range_in offset count size ≡ Some range → range.from < range.to
@@ -186,81 +242,94 @@ delete-speaks request key facts (Fault ∷ answers) = tt
 delete-speaks request key facts (NoMemory ∷ answers) = tt
 
 -- a request speaks so, unless it is an await
-data Speaks (handle : Option Handle) (request : Request) (heard : Heard) : Type 0 where
-  AwaitSpeaks : jobs_at_once request ≡ 0 → next_of handle request heard ≡ Waits → Speaks handle request heard
-  OtherSpeaks : jobs_at_once request ≡ 1 → SpeaksWith request (calls_left request) heard (next_of handle request heard) → Speaks handle request heard
+data Speaks (view : View) (request : Request) (heard : Heard) : Type 0 where
+  AwaitSpeaks : jobs_at_once request ≡ 0 → next_of view request heard ≡ Waits → Speaks view request heard
+  OtherSpeaks : jobs_at_once request ≡ 1 → SpeaksWith request (calls_left request) heard (next_of view request heard) → Speaks view request heard
 
-speaks : (handle : Option Handle) (request : Request) (heard : Heard) → Speaks handle request heard
-speaks handle (Put key content) heard = OtherSpeaks refl (put-speaks key content heard.facts heard.answers)
-speaks handle Await heard = AwaitSpeaks refl refl
-speaks handle (Stat path) heard = OtherSpeaks refl (stat-speaks (Stat path) (path_of path) heard)
-speaks handle (OpenRead name path) heard = OtherSpeaks refl (open-speaks (OpenRead name path) handle (path_of path) heard)
-speaks handle (Read name offset count) heard = OtherSpeaks refl (read-speaks name handle offset count heard)
-speaks handle (Close name) heard = OtherSpeaks refl (close-speaks (Close name) (calls_left (Close name)) heard handle)
-speaks handle (Delete key) heard = OtherSpeaks refl (delete-speaks (Delete key) key heard.facts heard.answers)
+speaks : (view : View) (request : Request) (heard : Heard) → Speaks view request heard
+speaks view (Put key content) heard = OtherSpeaks refl (put-speaks key content heard.facts heard.answers)
+speaks view Await heard = AwaitSpeaks refl refl
+speaks view (Stat path) heard = OtherSpeaks refl (stat-speaks (Stat path) view (path_of path) heard)
+speaks view (OpenRead name path) heard = OtherSpeaks refl (open-speaks (OpenRead name path) view view.handle (path_of path) heard)
+speaks view (Read name offset count) heard = OtherSpeaks refl (read-speaks name view.handle offset count heard)
+speaks view (Close name) heard = OtherSpeaks refl (close-speaks (Close name) (calls_left (Close name)) heard view.handle)
+speaks view (Delete key) heard = OtherSpeaks refl (delete-speaks (Delete key) key heard.facts heard.answers)
+speaks view (MakeDir path) heard = OtherSpeaks refl (make-speaks (MakeDir path) view (path_of path) heard)
+speaks view (RemoveDir path) heard = OtherSpeaks refl (remove-speaks (RemoveDir path) view (path_of path) heard)
+speaks view (Unlink path) heard = OtherSpeaks refl (unlink-speaks (Unlink path) view (path_of path) heard)
 
-pub only_await_waits : (handle : Option Handle) (request : Request) (heard : Heard) → next_of handle request heard ≡ Waits → jobs_at_once request ≡ 0
-only_await_waits handle request heard is = go (speaks handle request heard)
+pub only_await_waits : (view : View) (request : Request) (heard : Heard) → next_of view request heard ≡ Waits → jobs_at_once request ≡ 0
+only_await_waits view request heard is = go (speaks view request heard)
   where
-    go : Speaks handle request heard → jobs_at_once request ≡ 0
+    go : Speaks view request heard → jobs_at_once request ≡ 0
     go (AwaitSpeaks none waits) = none
     go (OtherSpeaks one fine) = absurd (subst (SpeaksWith request (calls_left request) heard) is fine)
 
 -- where it asks, it is no await
-asks-speak : (handle : Option Handle) (request : Request) (heard : Heard) (called : Call) → next_of handle request heard ≡ Asks called → (jobs_at_once request ≡ 1) × SpeaksWith request (calls_left request) heard (Asks called)
-asks-speak handle request heard called is = go (speaks handle request heard)
+asks-speak : (view : View) (request : Request) (heard : Heard) (called : Call) → next_of view request heard ≡ Asks called → (jobs_at_once request ≡ 1) × SpeaksWith request (calls_left request) heard (Asks called)
+asks-speak view request heard called is = go (speaks view request heard)
   where
-    go : Speaks handle request heard → (jobs_at_once request ≡ 1) × SpeaksWith request (calls_left request) heard (Asks called)
+    go : Speaks view request heard → (jobs_at_once request ≡ 1) × SpeaksWith request (calls_left request) heard (Asks called)
     go (AwaitSpeaks none waits) = absurd (cc)
     go (OtherSpeaks one fine) = (one, subst (SpeaksWith request (calls_left request) heard) is fine)
 
-pub asks-one : (handle : Option Handle) (request : Request) (heard : Heard) (called : Call) → next_of handle request heard ≡ Asks called → jobs_at_once request ≡ 1
-asks-one handle request heard called is = (asks-speak handle request heard called is).0
+pub asks-one : (view : View) (request : Request) (heard : Heard) (called : Call) → next_of view request heard ≡ Asks called → jobs_at_once request ≡ 1
+asks-one view request heard called is = (asks-speak view request heard called is).0
 
 -- an answer to the call leaves fewer
-pub calls_left_fall : (handle : Option Handle) (request : Request) (heard : Heard) (called : Call) (answer : Brief) → next_of handle request heard ≡ Asks called → calls_left request (with_told (told_by (question_of called) answer) heard) < calls_left request heard
-calls_left_fall handle request heard called answer is = let some = (asks-speak handle request heard called is).1 in some.0 answer
+pub calls_left_fall : (view : View) (request : Request) (heard : Heard) (called : Call) (answer : Brief) → next_of view request heard ≡ Asks called → calls_left request (with_told (told_by (question_of called) answer) heard) < calls_left request heard
+calls_left_fall view request heard called answer is = let some = (asks-speak view request heard called is).1 in some.0 answer
 
 -- so that one is left where it is asked
-pub asks-left : (handle : Option Handle) (request : Request) (heard : Heard) (called : Call) → next_of handle request heard ≡ Asks called → 0 < calls_left request heard
-asks-left handle request heard called is = let falls = calls_left_fall handle request heard called Fault is in omega arith
+pub asks-left : (view : View) (request : Request) (heard : Heard) (called : Call) → next_of view request heard ≡ Asks called → 0 < calls_left request heard
+asks-left view request heard called is = let falls = calls_left_fall view request heard called Fault is in omega arith
 
 -- the call may be made
-pub asks_made : (handle : Option Handle) (request : Request) (heard : Heard) (called : Call) → next_of handle request heard ≡ Asks called → MayBeMade called
-asks_made handle request heard called is = let some = (asks-speak handle request heard called is).1 in some.1
+pub asks_made : (view : View) (request : Request) (heard : Heard) (called : Call) → next_of view request heard ≡ Asks called → MayBeMade called
+asks_made view request heard called is = let some = (asks-speak view request heard called is).1 in some.1
 
 -- and stores the request's own content
-pub asks-puts : (handle : Option Handle) (request : Request) (heard : Heard) (called : Call) → next_of handle request heard ≡ Asks called → Puts (content_in request) called
-asks-puts handle request heard called is = let some = (asks-speak handle request heard called is).1 in some.2
+pub asks-puts : (view : View) (request : Request) (heard : Heard) (called : Call) → next_of view request heard ≡ Asks called → Puts (content_in request) called
+asks-puts view request heard called is = let some = (asks-speak view request heard called is).1 in some.2
 
-pub gives-read : (handle : Option Handle) (request : Request) (heard : Heard) (count : ℕ) → next_of handle request heard ≡ Gives count → IsRead request
-gives-read handle request heard count is = go (speaks handle request heard)
+pub gives-read : (view : View) (request : Request) (heard : Heard) (count : ℕ) → next_of view request heard ≡ Gives count → IsRead request
+gives-read view request heard count is = go (speaks view request heard)
   where
-    go : Speaks handle request heard → IsRead request
+    go : Speaks view request heard → IsRead request
     go (AwaitSpeaks none waits) = absurd (cc)
     go (OtherSpeaks one fine) = subst (SpeaksWith request (calls_left request) heard) is fine
 
 -- no data but those of a read
-pub replies-plain : (handle : Option Handle) (request : Request) (heard : Heard) (said : Reply) → next_of handle request heard ≡ Replies said → IsPlain said
-replies-plain handle request heard said is = go (speaks handle request heard)
+pub replies-plain : (view : View) (request : Request) (heard : Heard) (said : Reply) → next_of view request heard ≡ Replies said → IsPlain said
+replies-plain view request heard said is = go (speaks view request heard)
   where
-    go : Speaks handle request heard → IsPlain said
+    go : Speaks view request heard → IsPlain said
     go (AwaitSpeaks none waits) = absurd (cc)
     go (OtherSpeaks one fine) = subst (SpeaksWith request (calls_left request) heard) is fine
 
+-- what a read does next hangs on its handle alone, of all that it sees of the mount
+pub read_next_same : (one other : View) (request : Request) (heard : Heard) → IsRead request → one.handle ≡ other.handle → next_of one request heard ≡ next_of other request heard
+read_next_same one other (Read name offset count) heard read same = ap (λ (h : Option Handle). read_next h offset count heard.answers) same
+read_next_same one other (Put key content) heard read same = absurd read
+read_next_same one other Await heard read same = absurd read
+read_next_same one other (Stat path) heard read same = absurd read
+read_next_same one other (OpenRead name path) heard read same = absurd read
+read_next_same one other (Close name) heard read same = absurd read
+read_next_same one other (Delete key) heard read same = absurd read
+read_next_same one other (MakeDir path) heard read same = absurd read
+read_next_same one other (RemoveDir path) heard read same = absurd read
+read_next_same one other (Unlink path) heard read same = absurd read
+
 -- how many calls there are to make from the first one on
 
-path-calls : (path : Result (List (List ℕ)) PathFault) (names : List (List ℕ)) → path ≡ Ok names → path_left path nothing_heard ≤ 2 * length names
-path-calls path names is = let most = path-most (fact_in []) names in let same : path_left path nothing_heard ≡ path_left (Ok names) nothing_heard = ap (λ (t : Result (List (List ℕ)) PathFault). path_left t nothing_heard) is in omega arith
+pub path_calls : (behind : ℕ) (path : Result (List (List ℕ)) PathFault) (names : List (List ℕ)) → path ≡ Ok names → path_left behind path nothing_heard ≤ 2 * length names + behind
+path_calls behind path names is =
+    let most = path-most (fact_in []) names in
+    let same : path_left behind path nothing_heard ≡ path_left behind (Ok names) nothing_heard = ap (λ (t : Result (List (List ℕ)) PathFault). path_left behind t nothing_heard) is in
+    omega arith
 
-pub stat_calls : (path : List ℕ) (names : List (List ℕ)) → path_of path ≡ Ok names → calls_left (Stat path) nothing_heard ≤ 2 * length names
-stat_calls path names is = path-calls (path_of path) names is
+pub walk_calls : (path : Result (List (List ℕ)) PathFault) (names : List (List ℕ)) → path ≡ Ok names → path_left 0 path nothing_heard ≤ 2 * length names
+walk_calls path names is = let most = path_calls 0 path names is in omega arith
 
-pub open_calls : (name : ℕ) (path : List ℕ) (names : List (List ℕ)) → path_of path ≡ Ok names → calls_left (OpenRead name path) nothing_heard ≤ 2 * length names
-open_calls name path names is = path-calls (path_of path) names is
-
-pub faulty_calls : (path : List ℕ) (why : PathFault) → path_of path ≡ Err why → calls_left (Stat path) nothing_heard ≡ 0
-faulty_calls path why is = ap (λ (t : Result (List (List ℕ)) PathFault). path_left t nothing_heard) is
-
-pub faulty_open_calls : (name : ℕ) (path : List ℕ) (why : PathFault) → path_of path ≡ Err why → calls_left (OpenRead name path) nothing_heard ≡ 0
-faulty_open_calls name path why is = ap (λ (t : Result (List (List ℕ)) PathFault). path_left t nothing_heard) is
+pub faulty_calls : (behind : ℕ) (path : Result (List (List ℕ)) PathFault) (why : PathFault) → path ≡ Err why → path_left behind path nothing_heard ≡ 0
+faulty_calls behind path why is = ap (λ (t : Result (List (List ℕ)) PathFault). path_left behind t nothing_heard) is

@@ -1,5 +1,6 @@
 -- A run has no more steps than its script allows.
 use Rattle.std.proofs.Common.{◌+◌, ◌≤◌, List, [], ◌∷◌, fold, length, arith}
+use Rattle.mp_types.specs.declared.options.Opts.{Opts}
 use Rattle.bucket_model.specs.Along.{Along}
 use Rattle.mount_model.specs.declared.request.Line.{Line}
 use Rattle.mount_model.specs.Step.{Step}
@@ -18,5 +19,5 @@ steps_left state (step ∷ steps) alive faithful run =
     let more = steps_left (after state step) steps (alive-step state step alive run.0) (faithful-step state step alive faithful run.0) run.1 in
     omega arith
 
-pub run_ends : (script : List Line) (steps : List Step) → AreRising 0 script → IsRunSoFar script steps → length steps + work_left (state_after script steps) ≤ work_left (opening script)
-run_ends script steps rising run = steps_left (opening script) steps (opening-alive script rising) (opening-faithful script) run
+pub run_ends : (options : Opts) (script : List Line) (steps : List Step) → AreRising 0 script → IsRunSoFar options script steps → length steps + work_left (state_after options script steps) ≤ work_left (opening options script)
+run_ends options script steps rising run = steps_left (opening options script) steps (opening-alive options script rising) (opening-faithful options script) run

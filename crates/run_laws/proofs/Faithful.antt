@@ -1,7 +1,9 @@
--- Each job that is ready or out makes the call that its line does next.
-use Rattle.std.proofs.Common.{◌≡◌, ◌≢◌, ℕ, ◌+◌, List, [], ◌∷◌, ◌++◌, map, fold, length, cond, Bool, true, false, ◌||◌, ◌==◌, Option, Some, None, inl, inr, refl, sym, ap, ◌∙◌, subst, eqb-true, eq-eqb}
+-- What a job that is ready or out has to do with its line: a read's makes the call that its line does next, and each
+-- answer leaves fewer calls.
+use Rattle.std.proofs.Common.{◌≡◌, ◌≢◌, ℕ, ◌+◌, ◌<◌, List, [], ◌∷◌, ◌++◌, map, fold, length, cond, Bool, true, false, ◌||◌, ◌==◌, Option, Some, None, inl, inr, refl, sym, ap, ◌∙◌, subst, subst₂, eqb-true, eq-eqb}
 use Rattle.std.proofs.lemmas.Bool.{eqb-false}
 use Rattle.std.specs.List.{AllByRecursion}
+use Rattle.mp_types.specs.declared.options.Opts.{Opts}
 use Rattle.bucket_model.specs.Along.{Along}
 use Rattle.bucket_model.specs.Answers.{MayBeMade}
 use Rattle.bucket_model.specs.declared.call.Call.{Call}
@@ -17,20 +19,21 @@ use Rattle.mount_model.specs.declared.standing.Heard.{Heard}
 use Rattle.mount_model.specs.declared.standing.Phase.{Phase}
 use Rattle.mount_model.specs.declared.standing.Phase.TheVariants.{Waiting, Begun, Replied}
 use Rattle.mount_model.specs.declared.standing.Standing.{Standing}
+use Rattle.mount_model.specs.Heard.{with_told, question_of, told_by}
 use Rattle.mount_model.specs.Step.{Step}
-use Rattle.mount_model.specs.Conversation.{Next, Asks, Replies, Opens, Gives, Waits, next_of}
-use Rattle.mount_model.specs.Handles.{Opened, handle_of}
-use Rattle.mount_model.specs.State.{ClientState, Job, JobPhase, Ready, Out, Gone, line_at, job_at, change_job, lines_at, jobs_at, line_of, next_in, next_at, content_in, content_of, whole_call, job_of, jobs_asked, opening, after, state_after}
+use Rattle.mount_model.specs.Conversation.{Next, Asks, Replies, Makes, Removes, Opens, Gives, Waits, View, next_of}
+use Rattle.mount_model.specs.State.{ClientState, Job, JobPhase, Ready, Out, Gone, line_at, job_at, change_job, lines_at, jobs_at, line_of, view_of, next_at, content_in, content_of, whole_call, job_of, jobs_asked, opening, after, state_after}
 use Rattle.mount_model.specs.Run.{AreRising, is_among, startable, asked_of, TakesTurn, Turn, TurnOf, MayDone, IsLegalStep, IsRunSoFar}
 use Rattle.run_laws.specs.Alive.{AreOrderly, IsAlive}
-use Rattle.run_laws.specs.Faithful.{IsFaithful}
+use Rattle.run_laws.specs.Faithful.{IsRead, MakesRead, LeavesFewer, IsFaithful}
+use Rattle.run_laws.specs.Work.{calls_left}
 use Rattle.run_laws.proofs.Lines.{Rises-lines, line_at-other}
 use Rattle.run_laws.proofs.Jobs.{in_phase, Rises-jobs, ready-found}
 use Rattle.run_laws.proofs.Orderly.{Frees-first, busy_below, startable-found}
-use Rattle.run_laws.proofs.Conversation.{Puts, asks-one, asks_made, asks-puts}
+use Rattle.run_laws.proofs.Conversation.{Puts, asks-one, asks_made, asks-puts, calls_left_fall, read_next_same}
 use Rattle.run_laws.proofs.Handles.{effect-other}
-use Rattle.run_laws.proofs.Alive.{IsOpened, owner-due, next_at-begun, line-is, asked-own, begin-opens, done-opens, alive-step, opening-alive}
-use Rattle.run_laws.proofs.Spared.{Spares, left-next}
+use Rattle.run_laws.proofs.Alive.{IsDue, IsOpened, owner-due, next_at-begun, line-is, asked-own, begin-opens, done-opens, alive-step, opening-alive}
+use Rattle.run_laws.proofs.Spared.{Spares, IsLeft, left-line}
 use Rattle.run_laws.proofs.Served.{await-none, one_job}
 
 -- two lines that have begun are of two processes
@@ -98,6 +101,9 @@ own-line job n owner next asks own takes = go next takes
     go (Asks called) (inl t) = by _ t.1 tt
     go (Asks called) (inr t) = by _ t.1 (refl, tt)
     go (Replies said) t = by _ t.1 (refl, tt)
+    go (Makes key) (inl t) = by _ t.1 (refl, tt)
+    go (Makes key) (inr t) = by _ t.1 (refl, tt)
+    go (Removes key) t = by _ t.1 (refl, tt)
     go (Opens version) (inl t) = by _ t.1 (refl, tt)
     go (Opens version) (inr t) = by _ t.1 (refl, tt)
     go (Gives count) t = by _ t.2.1 (refl, tt)
@@ -109,10 +115,10 @@ own-spares lines n m actor s apart stands other [] all = tt
 own-spares lines n m actor s apart stands other (r ∷ own) all = (
   record {
     apart = λ e. apart (sym all.0 ∙ e);
-    handles = λ before hs name. effect-other before lines actor r (λ t at_r e.
+    handles = λ before shared name. effect-other before lines actor r (λ t at_r e.
         let same : Some t ≡ Some s = sym at_r ∙ ap (λ (k : ℕ). line_at k lines) all.0 ∙ stands in
         let is : t ≡ s = cc in
-        other (ap (λ (x : Standing). x.line.actor) (sym is) ∙ e)) hs name;
+        other (ap (λ (x : Standing). x.line.actor) (sym is) ∙ e)) shared name;
   },
   own-spares lines n m actor s apart stands other own all.1,
 )
@@ -161,13 +167,44 @@ whole-is lines n (call.Get key etag from to) puts = refl
 whole-is lines n (call.Delete key) puts = refl
 whole-is lines n (call.Put key bytes) puts = ap (call.Put key) (sym puts)
 
--- a job makes the call that its line does next
-abbrev Makes : ClientState → Job → Type 0
-Makes state job = next_at state.handles job.line state.lines ≡ Asks job.call
+-- what holds of a job that is ready or out
+record Fits (state : ClientState) (job : Job) : Type 0 where
+  reads : MakesRead state job
+  falls : LeavesFewer state job
+
+-- it holds where its line stands as it did, with its handle
+left-fits : (state behind : ClientState) (job : Job) (line : Line) (heard : Heard) → IsLeft state behind job.line line heard → (IsRead line.request → next_of (view_of state.shared line) line.request heard ≡ Asks job.call) → ((answer : Brief) → calls_left line.request (with_told (told_by (question_of job.call) answer) heard) < calls_left line.request heard) → Fits behind job
+left-fits state behind job line heard is_left reads falls = record {
+  reads = λ standing stands read.
+      let same : line ≡ standing.line = (is_left_at standing stands).0 in
+      let here : IsRead line.request = subst (λ (l : Line). IsRead l.request) (sym same) read in
+      next_at-begun behind.shared job.line line heard behind.lines is_left.stands
+      ∙ read_next_same (view_of behind.shared line) (view_of state.shared line) line.request heard here is_left.handle
+      ∙ reads here;
+  falls = λ standing now answer stands begun.
+      let same = is_left_at standing stands in
+      let phases : Begun heard ≡ Begun now = same.1 ∙ begun in
+      let heard_is : heard ≡ now = cc in
+      subst₂ (λ (l : Line) (h : Heard). calls_left l.request (with_told (told_by (question_of job.call) answer) h) < calls_left l.request h) same.0 heard_is (falls answer);
+}
+  where
+    is_left_at : (standing : Standing) → line_at job.line behind.lines ≡ Some standing → (line ≡ standing.line) × (Begun heard ≡ standing.phase)
+    is_left_at standing stands =
+        let both : Some (record { line = line; phase = Begun heard }) ≡ Some standing = sym is_left.stands ∙ stands in
+        let same : record { line = line; phase = Begun heard } ≡ standing = cc in
+        (ap (λ (s : Standing). s.line) same, ap (λ (s : Standing). s.phase) same)
+
+-- so of a job that was ready or out before
+kept-fits : (state behind : ClientState) (k : ℕ) (job : Job) → IsFaithful state → job_at k state.jobs ≡ Some job → job.phase ≢ Gone → (due : IsDue job.line state.lines) → IsLeft state behind job.line due.line due.heard → Fits behind job
+kept-fits state behind k job faithful stands live due is_left =
+    let standing : Standing = record { line = due.line; phase = Begun due.heard } in
+    left-fits state behind job due.line due.heard is_left
+    (λ read. sym (next_at-begun state.shared job.line due.line due.heard state.lines due.stands) ∙ faithful.reads k job stands live standing due.stands read)
+    (λ answer. faithful.falls k job stands live standing due.heard answer due.stands refl)
 
 -- the turn of a line leaves the jobs of other lines
-old-makes : (state : ClientState) (step : Step) → IsAlive state → IsFaithful state → IsLegalStep state step → (opened : IsOpened state step.event) → (k : ℕ) (job : Job) → job_at k state.jobs ≡ Some job → job.phase ≢ Gone → opened.n ≢ job.line → Makes (after state step) job
-old-makes state step alive faithful legal opened k job stands live apart =
+old-fits : (state : ClientState) (step : Step) → IsAlive state → IsFaithful state → IsLegalStep state step → (opened : IsOpened state step.event) → (k : ℕ) (job : Job) → job_at k state.jobs ≡ Some job → job.phase ≢ Gone → opened.n ≢ job.line → Fits (after state step) job
+old-fits state step alive faithful legal opened k job stands live apart =
     let due = owner-due state k job.line job alive stands refl live in
     let lines : List Standing = lines_at state.lines state.jobs step.event in
     let own_line : Standing = record { line = opened.line; phase = Begun opened.heard } in
@@ -175,13 +212,12 @@ old-makes state step alive faithful legal opened k job stands live apart =
     let here : line_at job.line lines ≡ Some job_line = ap (line_at job.line) opened.lines_are ∙ line_at-other opened.n job.line opened.goes state.lines (λ e. apart (sym e)) ∙ due.stands in
     let actors : opened.line.actor ≢ due.line.actor = orderly-apart [] opened.n job.line lines own_line job_line opened.heard due.heard apart opened.now.orderly opened.now.stands refl here refl in
     let takes = subst (λ (t : Turn). TakesTurn (length state.jobs + 1) t step.asks legal.own) opened.turn legal.turn in
-    let to_own = own-line (length state.jobs + 1) opened.n opened.owner (next_of (handle_of opened.line state.handles) opened.line.request opened.heard) step.asks legal.own takes in
+    let to_own = own-line (length state.jobs + 1) opened.n opened.owner (next_of (view_of state.shared opened.line) opened.line.request opened.heard) step.asks legal.own takes in
     let spares = own-spares lines opened.n job.line due.line.actor own_line apart opened.now.stands actors legal.own to_own in
-    left-next state step job.line due.line due.heard alive legal here (await-none due.line.request due.wants) spares
-    ∙ sym (next_at-begun state.handles job.line due.line due.heard state.lines due.stands)
-    ∙ faithful.makes k job stands live
+    kept-fits state (after state step) k job faithful stands live due (left-line state step job.line due.line due.heard alive legal here (await-none due.line.request due.wants) spares)
 
--- and its own job makes the call that it asks
+-- and the job that it asks for makes the call that it does next
+
 single-found : (k : ℕ) (first job : Job) → job_at k (first ∷ []) ≡ Some job → first ≡ job
 single-found k first job is = go (first.number == k) is
   where
@@ -189,48 +225,74 @@ single-found k first job is = go (first.number == k) is
     go true is = cc
     go false is = absurd (cc)
 
-new-makes : (state : ClientState) (step : Step) → IsAlive state → IsLegalStep state step → (opened : IsOpened state step.event) → (k : ℕ) (job : Job) → job_at k (map (job_of state.lines opened.n) step.asks) ≡ Some job → Makes (after state step) job
-new-makes state step alive legal opened k job stands = go (next_of (handle_of opened.line state.handles) opened.line.request opened.heard) refl (subst (λ (t : Turn). TakesTurn (length state.jobs + 1) t step.asks legal.own) opened.turn legal.turn)
+record IsAsked (state : ClientState) (event : Event) (opened : IsOpened state event) (own : List Answered) (job : Job) : Type 0 where
+  line : job.line ≡ opened.n
+  asks : next_of (view_of state.shared opened.line) opened.line.request opened.heard ≡ Asks job.call
+  alone : own ≡ []
+
+asked-found : (state : ClientState) (step : Step) → (legal : IsLegalStep state step) → (opened : IsOpened state step.event) → (k : ℕ) (job : Job) → job_at k (jobs_asked state.lines (line_of state.jobs step.event) step.asks) ≡ Some job → IsAsked state step.event opened legal.own job
+asked-found state step legal opened k job found = go (next_of (view_of state.shared opened.line) opened.line.request opened.heard) refl (subst (λ (t : Turn). TakesTurn (length state.jobs + 1) t step.asks legal.own) opened.turn legal.turn)
   where
     n : ℕ
     n = opened.n
 
-    none : step.asks ≡ [] → Makes (after state step) job
+    stands : job_at k (map (job_of state.lines n) step.asks) ≡ Some job
+    stands = ap (job_at k) (sym (asked-own state step.event opened step.asks)) ∙ found
+
+    none : step.asks ≡ [] → IsAsked state step.event opened legal.own job
     none no_asks = let nowhere : job_at k [] ≡ Some job = ap (λ (x : List Ask). job_at k (map (job_of state.lines n) x)) (sym no_asks) ∙ stands in absurd (cc)
 
-    asks : (called : Call) → next_of (handle_of opened.line state.handles) opened.line.request opened.heard ≡ Asks called → step.asks ≡ record { job = length state.jobs + 1; owner = opened.owner; call = asked_of called } ∷ [] → legal.own ≡ [] → Makes (after state step) job
+    asks : (called : Call) → next_of (view_of state.shared opened.line) opened.line.request opened.heard ≡ Asks called → step.asks ≡ record { job = length state.jobs + 1; owner = opened.owner; call = asked_of called } ∷ [] → legal.own ≡ [] → IsAsked state step.event opened legal.own job
     asks called is asked no_own =
-        let lines : List Standing = lines_at state.lines state.jobs step.event in
         let new : Job = job_of state.lines n (record { job = length state.jobs + 1; owner = opened.owner; call = asked_of called }) in
         let same : new ≡ job = single-found k new job (ap (λ (x : List Ask). job_at k (map (job_of state.lines n) x)) (sym asked) ∙ stands) in
-        let spares = subst (AllByRecursion (Spares lines n opened.line.actor)) (sym no_own) tt in
-        let one = asks-one (handle_of opened.line state.handles) opened.line.request opened.heard called is in
-        let puts = asks-puts (handle_of opened.line state.handles) opened.line.request opened.heard called is in
+        let puts = asks-puts (view_of state.shared opened.line) opened.line.request opened.heard called is in
         let content : content_of (line_at n state.lines) ≡ content_in opened.line.request = ap content_of opened.found in
         let whole = whole-is state.lines n called (subst (λ (x : List ℕ). Puts x called) (sym content) puts) in
-        subst (Makes (after state step)) same
-        (left-next state step n opened.line opened.heard alive legal opened.now.stands (await-none opened.line.request one) spares ∙ is ∙ ap Asks (sym whole))
+        record {
+          line = ap (λ (j : Job). j.line) (sym same);
+          asks = is ∙ ap Asks (sym whole ∙ ap (λ (j : Job). j.call) same);
+          alone = no_own;
+        }
 
-    go : (next : Next) → next_of (handle_of opened.line state.handles) opened.line.request opened.heard ≡ next → TakesTurn (length state.jobs + 1) (TurnOf n opened.owner next) step.asks legal.own → Makes (after state step) job
+    go : (next : Next) → next_of (view_of state.shared opened.line) opened.line.request opened.heard ≡ next → TakesTurn (length state.jobs + 1) (TurnOf n opened.owner next) step.asks legal.own → IsAsked state step.event opened legal.own job
     go (Asks called) is (inl t) = asks called is t.0 t.1
     go (Asks called) is (inr t) = none t.0
     go (Replies said) is t = none t.0
+    go (Makes key) is (inl t) = none t.0
+    go (Makes key) is (inr t) = none t.0
+    go (Removes key) is t = none t.0
     go (Opens version) is (inl t) = none t.0
     go (Opens version) is (inr t) = none t.0
     go (Gives count) is t = none t.2.0
     go Waits is t = none t.0
+
+new-fits : (state : ClientState) (step : Step) → IsAlive state → (legal : IsLegalStep state step) → (opened : IsOpened state step.event) → (job : Job) → IsAsked state step.event opened legal.own job → Fits (after state step) job
+new-fits state step alive legal opened job asked =
+    let view : View = view_of state.shared opened.line in
+    let one = asks-one view opened.line.request opened.heard job.call asked.asks in
+    let spares = subst (AllByRecursion (Spares (lines_at state.lines state.jobs step.event) opened.n opened.line.actor)) (sym asked.alone) tt in
+    let is_left = left-line state step opened.n opened.line opened.heard alive legal opened.now.stands (await-none opened.line.request one) spares in
+    left-fits state (after state step) job opened.line opened.heard
+    (subst (λ (n : ℕ). IsLeft state (after state step) n opened.line opened.heard) (sym asked.line) is_left)
+    (λ read. asked.asks)
+    (λ answer. calls_left_fall view opened.line.request opened.heard job.call answer asked.asks)
 
 -- the jobs that are ready or out behind a turn's event were so before, and are of other lines
 record Others (state : ClientState) (event : Event) (n : ℕ) : Type 0 where
   stood : (k : ℕ) (job : Job) → job_at k (jobs_at state.jobs event) ≡ Some job → job.phase ≢ Gone → job_at k state.jobs ≡ Some job
   apart : (k : ℕ) (job : Job) → job_at k (jobs_at state.jobs event) ≡ Some job → job.phase ≢ Gone → n ≢ job.line
 
+-- what holds of each such job
+each-fits : (state : ClientState) → ((k : ℕ) (job : Job) → job_at k state.jobs ≡ Some job → job.phase ≢ Gone → Fits state job) → IsFaithful state
+each-fits state fits = record { reads = λ k job stands live. (fits k job stands live).reads; falls = λ k job stands live. (fits k job stands live).falls }
+
 turn-faithful : (state : ClientState) (step : Step) → IsAlive state → IsFaithful state → IsLegalStep state step → (opened : IsOpened state step.event) → Others state step.event opened.n → IsFaithful (after state step)
-turn-faithful state step alive faithful legal opened others = record { makes = λ k job stands live. go k job live (found-either k (jobs_at state.jobs step.event) (jobs_asked state.lines (line_of state.jobs step.event) step.asks) job stands) }
+turn-faithful state step alive faithful legal opened others = each-fits (after state step) (λ k job stands live. go k job live (found-either k (jobs_at state.jobs step.event) (jobs_asked state.lines (line_of state.jobs step.event) step.asks) job stands))
   where
-    go : (k : ℕ) (job : Job) → job.phase ≢ Gone → InEither (job_at k (jobs_at state.jobs step.event)) (job_at k (jobs_asked state.lines (line_of state.jobs step.event) step.asks)) job → Makes (after state step) job
-    go k job live (InFirst stands) = old-makes state step alive faithful legal opened k job (others.stood k job stands live) live (others.apart k job stands live)
-    go k job live (InSecond stands) = new-makes state step alive legal opened k job (ap (job_at k) (sym (asked-own state step.event opened step.asks)) ∙ stands)
+    go : (k : ℕ) (job : Job) → job.phase ≢ Gone → InEither (job_at k (jobs_at state.jobs step.event)) (job_at k (jobs_asked state.lines (line_of state.jobs step.event) step.asks)) job → Fits (after state step) job
+    go k job live (InFirst stands) = old-fits state step alive faithful legal opened k job (others.stood k job stands live) live (others.apart k job stands live)
+    go k job live (InSecond stands) = new-fits state step alive legal opened job (asked-found state step legal opened k job stands)
 
 -- the line that begins has no job yet
 begin-others : (state : ClientState) (n time m : ℕ) → IsAlive state → is_among n (startable state.lines) ≡ true → Some n ≡ Some m → Others state (Begin n time) m
@@ -267,29 +329,28 @@ done-others state number position answer m alive may of_line = record { stood = 
         here.0 (one_job state k number m job may.job alive here.1 may.stands live (λ gone. absurd (cc)) (sym e) line_is)
 
 take-faithful : (state : ClientState) (number time from : ℕ) (drops : List ℕ) (asks : List Ask) (replies : List Answered) → IsAlive state → IsFaithful state → IsLegalStep state (record { event = Take number time from; drops = drops; asks = asks; replies = replies }) → IsFaithful (after state (record { event = Take number time from; drops = drops; asks = asks; replies = replies }))
-take-faithful state number time from drops asks replies alive faithful legal = record { makes = λ k job stands live. go k job live (found-either k (change_job number (Out from) state.jobs) [] job stands) }
+take-faithful state number time from drops asks replies alive faithful legal = each-fits (after state step) (λ k job stands live. go k job live (found-either k (change_job number (Out from) state.jobs) [] job stands))
   where
     step : Step
     step = record { event = Take number time from; drops = drops; asks = asks; replies = replies }
 
-    kept : (k : ℕ) (job : Job) → job_at k state.jobs ≡ Some job → job.phase ≢ Gone → Makes (after state step) job
+    kept : (k : ℕ) (job : Job) → job_at k state.jobs ≡ Some job → job.phase ≢ Gone → Fits (after state step) job
     kept k job stands live =
         let due = owner-due state k job.line job alive stands refl live in
         let spares = subst (AllByRecursion (Spares state.lines job.line due.line.actor)) (sym legal.turn.1) tt in
-        left-next state step job.line due.line due.heard alive legal due.stands (await-none due.line.request due.wants) spares
-        ∙ sym (next_at-begun state.handles job.line due.line due.heard state.lines due.stands)
-        ∙ faithful.makes k job stands live
+        kept-fits state (after state step) k job faithful stands live due (left-line state step job.line due.line due.heard alive legal due.stands (await-none due.line.request due.wants) spares)
 
-    moved : (k : ℕ) (job : Job) → job.phase ≢ Gone → Changed k number (Out from) state.jobs job → Makes (after state step) job
+    moved : (k : ℕ) (job : Job) → job.phase ≢ Gone → Changed k number (Out from) state.jobs job → Fits (after state step) job
     moved k job live (Same apart stands) = kept k job stands live
     moved k job live (Moved old here stands is) =
         let found = ready-found 0 number state.jobs (Rises-jobs 0 state.jobs alive.numbered) legal.may_come.1 in
         let both : Some old ≡ Some found.job = sym stands ∙ ap (λ (x : ℕ). job_at x state.jobs) here ∙ found.stands in
         let same : old ≡ found.job = cc in
         let ready_is : old.phase ≡ Ready = ap (λ (j : Job). j.phase) same ∙ found.phase in
-        subst (Makes (after state step)) is (kept k old stands (λ gone. absurd (cc)))
+        let fits = kept k old stands (λ gone. absurd (cc)) in
+        subst (Fits (after state step)) is (record { reads = fits.reads; falls = fits.falls })
 
-    go : (k : ℕ) (job : Job) → job.phase ≢ Gone → InEither (job_at k (change_job number (Out from) state.jobs)) (job_at k []) job → Makes (after state step) job
+    go : (k : ℕ) (job : Job) → job.phase ≢ Gone → InEither (job_at k (change_job number (Out from) state.jobs)) (job_at k []) job → Fits (after state step) job
     go k job live (InFirst stands) = moved k job live (changed-found k number (Out from) state.jobs job stands)
     go k job live (InSecond stands) = absurd (cc)
 
@@ -310,28 +371,19 @@ pub faithful-steps : (state : ClientState) (steps : List Step) → IsAlive state
 faithful-steps state [] alive faithful run = faithful
 faithful-steps state (step ∷ steps) alive faithful run = faithful-steps (after state step) steps (alive-step state step alive run.0) (faithful-step state step alive faithful run.0) run.1
 
-pub opening-faithful : (script : List Line) → IsFaithful (opening script)
-opening-faithful script = record { makes = λ number job stands live. absurd (cc) }
+pub opening-faithful : (options : Opts) (script : List Line) → IsFaithful (opening options script)
+opening-faithful options script = each-fits (opening options script) (λ number job stands live. absurd (cc))
 
-pub faithful : (script : List Line) (steps : List Step) → AreRising 0 script → IsRunSoFar script steps → IsFaithful (state_after script steps)
-faithful script steps rising run = faithful-steps (opening script) steps (opening-alive script rising) (opening-faithful script) run
+pub faithful : (options : Opts) (script : List Line) (steps : List Step) → AreRising 0 script → IsRunSoFar options script steps → IsFaithful (state_after options script steps)
+faithful options script steps rising run = faithful-steps (opening options script) steps (opening-alive options script rising) (opening-faithful options script) run
 
-pub job_makes_call : (script : List Line) (steps : List Step) (number : ℕ) (job : Job) → AreRising 0 script → IsRunSoFar script steps → job_at number (state_after script steps).jobs ≡ Some job → job.phase ≢ Gone → next_at (state_after script steps).handles job.line (state_after script steps).lines ≡ Asks job.call
-job_makes_call script steps number job rising run stands live = (faithful script steps rising run).makes number job stands live
+pub job_makes_call : (options : Opts) (script : List Line) (steps : List Step) (number : ℕ) (job : Job) (standing : Standing) → AreRising 0 script → IsRunSoFar options script steps → job_at number (state_after options script steps).jobs ≡ Some job → job.phase ≢ Gone → line_at job.line (state_after options script steps).lines ≡ Some standing → IsRead standing.line.request → next_at (state_after options script steps).shared job.line (state_after options script steps).lines ≡ Asks job.call
+job_makes_call options script steps number job standing rising run stands live there read = (faithful options script steps rising run).reads number job stands live standing there read
+
+pub answer_leaves_fewer : (options : Opts) (script : List Line) (steps : List Step) (number : ℕ) (job : Job) (standing : Standing) (heard : Heard) (answer : Brief) → AreRising 0 script → IsRunSoFar options script steps → job_at number (state_after options script steps).jobs ≡ Some job → job.phase ≢ Gone → line_at job.line (state_after options script steps).lines ≡ Some standing → standing.phase ≡ Begun heard → calls_left standing.line.request (with_told (told_by (question_of job.call) answer) heard) < calls_left standing.line.request heard
+answer_leaves_fewer options script steps number job standing heard answer rising run stands live there begun = (faithful options script steps rising run).falls number job stands live standing heard answer there begun
 
 -- and each call that a job makes may be made
-
-phase-made : (handles : List Opened) (line : Line) (phase : Phase) (called : Call) → next_in handles (record { line = line; phase = phase }) ≡ Asks called → MayBeMade called
-phase-made handles line Waiting called is = absurd (cc)
-phase-made handles line (Begun heard) called is = asks_made (handle_of line handles) line.request heard called is
-phase-made handles line Replied called is = absurd (cc)
-
-pub next-made : (handles : List Opened) (n : ℕ) (lines : List Standing) (called : Call) → next_at handles n lines ≡ Asks called → MayBeMade called
-next-made handles n lines called is = go (line_at n lines) refl
-  where
-    go : (o : Option Standing) → line_at n lines ≡ o → MayBeMade called
-    go None at = let waits : next_at handles n lines ≡ Waits = rw at refl in absurd (cc)
-    go (Some s) at = let here : next_at handles n lines ≡ next_in handles s = rw at refl in phase-made handles s.line s.phase called (sym here ∙ is)
 
 -- all jobs so far, those that are gone too
 abbrev AllMade : ClientState → Type 0
@@ -355,31 +407,24 @@ stood-event k jobs (Begin line time) job is = record { old = job; stands = is; s
 stood-event k jobs (Take number time from) job is = stood-change k number (Out from) jobs job is
 stood-event k jobs (Done number position answer) job is = stood-change k number Gone jobs job is
 
-asked-ready : (k n : ℕ) (lines : List Standing) (asks : List Ask) (job : Job) → job_at k (map (job_of lines n) asks) ≡ Some job → job.phase ≡ Ready
-asked-ready k n lines [] job is = absurd (cc)
-asked-ready k n lines (ask ∷ asks) job is = go ((job_of lines n ask).number == k) is (asked-ready k n lines asks job)
-  where
-    go : (b : Bool) → cond b (Some (job_of lines n ask)) (job_at k (map (job_of lines n) asks)) ≡ Some job → (job_at k (map (job_of lines n) asks) ≡ Some job → job.phase ≡ Ready) → job.phase ≡ Ready
-    go true is ih = let same : job_of lines n ask ≡ job = cc in ap (λ (j : Job). j.phase) (sym same)
-    go false is ih = ih is
+turn-made : (state : ClientState) (step : Step) → IsLegalStep state step → IsOpened state step.event → (k : ℕ) (job : Job) → job_at k (jobs_asked state.lines (line_of state.jobs step.event) step.asks) ≡ Some job → MayBeMade job.call
+turn-made state step legal opened k job stands = asks_made (view_of state.shared opened.line) opened.line.request opened.heard job.call (asked-found state step legal opened k job stands).asks
 
-all-ready : (k : ℕ) (o : Option ℕ) (lines : List Standing) (asks : List Ask) (job : Job) → job_at k (jobs_asked lines o asks) ≡ Some job → job.phase ≡ Ready
-all-ready k None lines asks job is = absurd (cc)
-all-ready k (Some n) lines asks job is = asked-ready k n lines asks job is
+event-made : (state : ClientState) (event : Event) (drops : List ℕ) (asks : List Ask) (replies : List Answered) → IsAlive state → IsLegalStep state (record { event = event; drops = drops; asks = asks; replies = replies }) → (k : ℕ) (job : Job) → job_at k (jobs_asked state.lines (line_of state.jobs event) asks) ≡ Some job → MayBeMade job.call
+event-made state (Begin n time) drops asks replies alive legal k job stands = turn-made state (record { event = Begin n time; drops = drops; asks = asks; replies = replies }) legal (begin-opens state n time alive legal.may_come.1) k job stands
+event-made state (Take number time from) drops asks replies alive legal k job stands = absurd (cc)
+event-made state (Done number position answer) drops asks replies alive legal k job stands = turn-made state (record { event = Done number position answer; drops = drops; asks = asks; replies = replies }) legal (done-opens state number position answer alive legal.may_come) k job stands
 
-made-step : (state : ClientState) (step : Step) → IsAlive state → IsFaithful state → AllMade state → IsLegalStep state step → AllMade (after state step)
-made-step state step alive faithful made legal k job stands = go (found-either k (jobs_at state.jobs step.event) (jobs_asked state.lines (line_of state.jobs step.event) step.asks) job stands)
+made-step : (state : ClientState) (step : Step) → IsAlive state → AllMade state → IsLegalStep state step → AllMade (after state step)
+made-step state step alive made legal k job stands = go (found-either k (jobs_at state.jobs step.event) (jobs_asked state.lines (line_of state.jobs step.event) step.asks) job stands)
   where
     go : InEither (job_at k (jobs_at state.jobs step.event)) (job_at k (jobs_asked state.lines (line_of state.jobs step.event) step.asks)) job → MayBeMade job.call
     go (InFirst is) = let old = stood-event k state.jobs step.event job is in subst MayBeMade old.same (made k old.old old.stands)
-    go (InSecond is) =
-        let ready_is = all-ready k (line_of state.jobs step.event) state.lines step.asks job is in
-        let behind = faithful-step state step alive faithful legal in
-        next-made (after state step).handles job.line (after state step).lines job.call (behind.makes k job stands (λ gone. absurd (cc)))
+    go (InSecond is) = event-made state step.event step.drops step.asks step.replies alive legal k job is
 
-made-steps : (state : ClientState) (steps : List Step) → IsAlive state → IsFaithful state → AllMade state → Along IsLegalStep after state steps → AllMade (fold after state steps)
-made-steps state [] alive faithful made run = made
-made-steps state (step ∷ steps) alive faithful made run = made-steps (after state step) steps (alive-step state step alive run.0) (faithful-step state step alive faithful run.0) (made-step state step alive faithful made run.0) run.1
+made-steps : (state : ClientState) (steps : List Step) → IsAlive state → AllMade state → Along IsLegalStep after state steps → AllMade (fold after state steps)
+made-steps state [] alive made run = made
+made-steps state (step ∷ steps) alive made run = made-steps (after state step) steps (alive-step state step alive run.0) (made-step state step alive made run.0) run.1
 
-pub calls_made : (script : List Line) (steps : List Step) (number : ℕ) (job : Job) → AreRising 0 script → IsRunSoFar script steps → job_at number (state_after script steps).jobs ≡ Some job → MayBeMade job.call
-calls_made script steps number job rising run stands = made-steps (opening script) steps (opening-alive script rising) (opening-faithful script) (λ k new is. absurd (cc)) run number job stands
+pub calls_made : (options : Opts) (script : List Line) (steps : List Step) (number : ℕ) (job : Job) → AreRising 0 script → IsRunSoFar options script steps → job_at number (state_after options script steps).jobs ≡ Some job → MayBeMade job.call
+calls_made options script steps number job rising run stands = made-steps (opening options script) steps (opening-alive options script rising) (λ k new is. absurd (cc)) run number job stands

@@ -1,96 +1,106 @@
--- A reply changes no handles but those of its own process, and the reply to an await changes none.
-use Rattle.std.proofs.Common.{◌≡◌, ◌≢◌, ℕ, List, [], ◌∷◌, ◌++◌, find, filter, cond, Bool, true, false, not, ◌&&◌, ◌==◌, Option, Some, None, option_map, refl, sym, ap, ◌∙◌, eqb-true, ne_eqb}
+-- A reply changes no handles but those of its own process, and the reply to an await changes nothing.
+use Rattle.std.proofs.Common.{◌≡◌, ◌≢◌, ℕ, List, cond, Bool, false, ◌&&◌, ◌==◌, Option, Some, None, refl, sym, ap, ◌∙◌, ne_eqb}
+use Rattle.std.specs.FinMap as table
+use Rattle.std.specs.Ordering.{nat_cmp, eq_by_cmp}
+use Rattle.std.specs.Cmp.{IsTotalOrder, both_tied, unsigned_ties}
+use Rattle.std.proofs.lemmas.Cmp.{nat_cmp_total, on_total, then_total}
+use Rattle.mp_types.specs.HandleName.{HandleName, name_cmp}
 use Rattle.mount_model.specs.declared.handle.Handle.{Handle}
 use Rattle.mount_model.specs.declared.request.Request.{Request}
-use Rattle.mount_model.specs.declared.request.Request.TheVariants.{Put, Await, Stat, OpenRead, Read, Close, Delete}
+use Rattle.mount_model.specs.declared.request.Request.TheVariants.{Put, Await, Stat, OpenRead, Read, Close, Delete, MakeDir, RemoveDir, Unlink}
 use Rattle.mount_model.specs.declared.request.Reply.{Reply}
 use Rattle.mount_model.specs.declared.request.Reply.TheVariants as reply
 use Rattle.mount_model.specs.declared.request.Line.{Line}
 use Rattle.mount_model.specs.declared.event.Answered.{Answered}
+use Rattle.mount_model.specs.declared.standing.Phase.{Phase}
+use Rattle.mount_model.specs.declared.standing.Phase.TheVariants.{Waiting, Begun, Replied}
 use Rattle.mount_model.specs.declared.standing.Standing.{Standing}
-use Rattle.mount_model.specs.Conversation.{Next, Asks, Replies, Opens, Gives, Waits}
-use Rattle.mount_model.specs.Handles.{Opened, is_named, with_handle, without_handle, name_in, handle_named}
-use Rattle.mount_model.specs.State.{line_at, next_in, opens, closes, by_reply, with_effect}
+use Rattle.mount_model.specs.Conversation.{Next, Asks, Replies, Makes, Removes, Opens, Gives, Waits, next_of}
+use Rattle.mount_model.specs.Handles.{Handles, name_in, handle_named}
+use Rattle.mount_model.specs.State.{Shared, line_at, view_of, next_in, opens, closes, succeeds, by_reply, with_effect}
 
--- looking up past an item that isn't meant
+-- names of handles in their order
 
-find-push : {X : Type 0} (p : X → Bool) (x : X) → p x ≡ false → (xs : List X) → find p (xs ++ x ∷ []) ≡ find p xs
-find-push {X} p x other [] = rw other refl
-find-push {X} p x other (y ∷ ys) = ap (λ (t : Option X). cond (p y) (Some y) t) (find-push p x other ys)
+pub name_total : IsTotalOrder name_cmp
+name_total = then_total (on_total (λ (n : HandleName). n.0) nat_cmp_total) (on_total (λ (n : HandleName). n.1) nat_cmp_total)
 
-find-filter : {X : Type 0} (p q : X → Bool) → ((x : X) → p x ≡ true → q x ≡ true) → (xs : List X) → find p (filter q xs) ≡ find p xs
-find-filter p q both [] = refl
-find-filter {X} p q both (x ∷ xs) = go (p x) (q x) refl refl (find-filter p q both xs)
-  where
-    go : (b c : Bool) → p x ≡ b → q x ≡ c → find p (filter q xs) ≡ find p xs → find p (cond c (x ∷ filter q xs) (filter q xs)) ≡ cond b (Some x) (find p xs)
-    go true true is stays e = rw is refl
-    go true false is stays e = let meant : q x ≡ true = both x is in absurd (cc)
-    go false true is stays e = rw is e
-    go false false is stays e = e
+pub same_name : (a n b m : ℕ) → eq_by_cmp name_cmp (a, n) (b, m) ≡ (a == b && n == m)
+same_name a n b m = sym (both_tied (a == b) (n == m) (nat_cmp a b) (nat_cmp n m) (unsigned_ties a b) (unsigned_ties n m))
 
 -- a handle of one process isn't one of another
-named-apart : (a b x y : ℕ) (o : Opened) → a ≢ b → is_named b y o ≡ true → not (is_named a x o) ≡ true
-named-apart a b x y o apart is = go (o.actor == b) refl is
+names-apart : (a b n m : ℕ) → a ≢ b → eq_by_cmp name_cmp (b, m) (a, n) ≡ false
+names-apart a b n m apart =
+    let other : (b == a) ≡ false = ne_eqb b a (λ e. apart (sym e)) in
+    same_name b m a n ∙ rw other refl
+
+kept-with : (a b : ℕ) → a ≢ b → (n : ℕ) (handle : Handle) (handles : Handles) (name : Option ℕ) → handle_named b name (table.insert handles (a, n) handle) ≡ handle_named b name handles
+kept-with a b apart n handle handles None = refl
+kept-with a b apart n handle handles (Some m) = table.get-insert name_total handles (a, n) handle (b, m) ∙ ap (λ (same : Bool). cond same (Some handle) (table.get handles (b, m))) (names-apart a b n m apart)
+
+kept-without : (a b : ℕ) → a ≢ b → (n : ℕ) (handles : Handles) (name : Option ℕ) → handle_named b name (table.remove handles (a, n)) ≡ handle_named b name handles
+kept-without a b apart n handles None = refl
+kept-without a b apart n handles (Some m) = table.get-remove name_total handles (a, n) (b, m) ∙ ap (λ (same : Bool). cond same None (table.get handles (b, m))) (names-apart a b n m apart)
+
+kept-opens : (b : ℕ) (next : Next) (line : Line) (shared : Shared) (name : Option ℕ) → line.actor ≢ b → handle_named b name (opens next line shared).handles ≡ handle_named b name shared.handles
+kept-opens b (Opens version) line shared name apart = go (name_in line.request) refl
   where
-    go : (c : Bool) → (o.actor == b) ≡ c → (c && (o.name == y)) ≡ true → not (is_named a x o) ≡ true
-    go true same is =
-        let here : o.actor ≡ b = eqb-true o.actor b same in
-        let other : (o.actor == a) ≡ false = ne_eqb o.actor a (λ e. apart (sym e ∙ here)) in
-        rw other refl
-    go false same is = absurd (cc)
-
-kept-with : (a b : ℕ) → a ≢ b → (n : ℕ) (h : Handle) (hs : List Opened) (name : Option ℕ) → handle_named b name (with_handle a n h hs) ≡ handle_named b name hs
-kept-with a b apart n h hs None = refl
-kept-with a b apart n h hs (Some y) =
-    let other : (a == b) ≡ false = ne_eqb a b apart in
-    let not_meant : is_named b y (record { actor = a; name = n; handle = h }) ≡ false = rw other refl in
-    ap (option_map (λ (o : Opened). o.handle)) (find-push (is_named b y) (record { actor = a; name = n; handle = h }) not_meant hs)
-
-kept-without : (a b : ℕ) → a ≢ b → (n : ℕ) (hs : List Opened) (name : Option ℕ) → handle_named b name (without_handle a n hs) ≡ handle_named b name hs
-kept-without a b apart n hs None = refl
-kept-without a b apart n hs (Some y) = ap (option_map (λ (o : Opened). o.handle)) (find-filter (is_named b y) (λ o. not (is_named a n o)) (λ o is. named-apart a b n y o apart is) hs)
-
-kept-opens : (b : ℕ) (next : Next) (line : Line) (hs : List Opened) (name : Option ℕ) → line.actor ≢ b → handle_named b name (opens next line hs) ≡ handle_named b name hs
-kept-opens b (Opens version) line hs name apart = go (name_in line.request) refl
-  where
-    go : (o : Option ℕ) → name_in line.request ≡ o → handle_named b name (opens (Opens version) line hs) ≡ handle_named b name hs
+    go : (o : Option ℕ) → name_in line.request ≡ o → handle_named b name (opens (Opens version) line shared).handles ≡ handle_named b name shared.handles
     go None is = rw is refl
-    go (Some n) is = rw is (kept-with line.actor b apart n (record { line = line.number; version = version }) hs name)
-kept-opens b (Asks called) line hs name apart = refl
-kept-opens b (Replies said) line hs name apart = refl
-kept-opens b (Gives count) line hs name apart = refl
-kept-opens b Waits line hs name apart = refl
+    go (Some n) is = rw is (kept-with line.actor b apart n (record { line = line.number; version = version }) shared.handles name)
+kept-opens b (Asks called) line shared name apart = refl
+kept-opens b (Replies said) line shared name apart = refl
+kept-opens b (Makes key) line shared name apart = refl
+kept-opens b (Removes key) line shared name apart = refl
+kept-opens b (Gives count) line shared name apart = refl
+kept-opens b Waits line shared name apart = refl
 
-kept-closes : (b : ℕ) (request : Request) (actor : ℕ) (hs : List Opened) (name : Option ℕ) → actor ≢ b → handle_named b name (closes request actor hs) ≡ handle_named b name hs
-kept-closes b (Put key content) actor hs name apart = refl
-kept-closes b Await actor hs name apart = refl
-kept-closes b (Stat path) actor hs name apart = refl
-kept-closes b (OpenRead n path) actor hs name apart = refl
-kept-closes b (Read n offset count) actor hs name apart = refl
-kept-closes b (Close n) actor hs name apart = kept-without actor b apart n hs name
-kept-closes b (Delete key) actor hs name apart = refl
+kept-closes : (b : ℕ) (request : Request) (actor : ℕ) (shared : Shared) (name : Option ℕ) → actor ≢ b → handle_named b name (closes request actor shared).handles ≡ handle_named b name shared.handles
+kept-closes b (Put key content) actor shared name apart = refl
+kept-closes b Await actor shared name apart = refl
+kept-closes b (Stat path) actor shared name apart = refl
+kept-closes b (OpenRead n path) actor shared name apart = refl
+kept-closes b (Read n offset count) actor shared name apart = refl
+kept-closes b (Close n) actor shared name apart = kept-without actor b apart n shared.handles name
+kept-closes b (Delete key) actor shared name apart = refl
+kept-closes b (MakeDir path) actor shared name apart = refl
+kept-closes b (RemoveDir path) actor shared name apart = refl
+kept-closes b (Unlink path) actor shared name apart = refl
 
-kept-reply : (b : ℕ) (next : Next) (line : Line) (said : Reply) (hs : List Opened) (name : Option ℕ) → line.actor ≢ b → handle_named b name (by_reply next line said hs) ≡ handle_named b name hs
-kept-reply b next line (reply.Open size) hs name apart = kept-opens b next line hs name apart
-kept-reply b next line reply.Success hs name apart = kept-closes b line.request line.actor hs name apart
-kept-reply b next line (reply.Made etag) hs name apart = refl
-kept-reply b next line reply.Directory hs name apart = refl
-kept-reply b next line (reply.File size) hs name apart = refl
-kept-reply b next line (reply.Data bytes) hs name apart = refl
-kept-reply b next line reply.Gone hs name apart = refl
-kept-reply b next line (reply.Failed errno) hs name apart = refl
+kept-succeeds : (b : ℕ) (next : Next) (line : Line) (shared : Shared) (name : Option ℕ) → line.actor ≢ b → handle_named b name (succeeds next line shared).handles ≡ handle_named b name shared.handles
+kept-succeeds b (Replies said) line shared name apart = kept-closes b line.request line.actor shared name apart
+kept-succeeds b (Asks called) line shared name apart = refl
+kept-succeeds b (Makes key) line shared name apart = refl
+kept-succeeds b (Removes key) line shared name apart = refl
+kept-succeeds b (Opens version) line shared name apart = refl
+kept-succeeds b (Gives count) line shared name apart = refl
+kept-succeeds b Waits line shared name apart = refl
+
+kept-reply : (b : ℕ) (next : Next) (line : Line) (said : Reply) (shared : Shared) (name : Option ℕ) → line.actor ≢ b → handle_named b name (by_reply next line said shared).handles ≡ handle_named b name shared.handles
+kept-reply b next line (reply.Open size) shared name apart = kept-opens b next line shared name apart
+kept-reply b next line reply.Success shared name apart = kept-succeeds b next line shared name apart
+kept-reply b next line (reply.Made etag) shared name apart = refl
+kept-reply b next line reply.Directory shared name apart = refl
+kept-reply b next line (reply.File size) shared name apart = refl
+kept-reply b next line (reply.Data bytes) shared name apart = refl
+kept-reply b next line reply.Gone shared name apart = refl
+kept-reply b next line (reply.Failed errno) shared name apart = refl
 
 -- a reply to a line of another process
-pub effect-other : (before : List Opened) (lines : List Standing) (b : ℕ) (r : Answered) → ((s : Standing) → line_at r.line lines ≡ Some s → s.line.actor ≢ b) → (hs : List Opened) (name : Option ℕ) → handle_named b name (with_effect before lines hs r) ≡ handle_named b name hs
-effect-other before lines b r apart hs name = go (line_at r.line lines) refl
+pub effect-other : (before : Shared) (lines : List Standing) (b : ℕ) (r : Answered) → ((s : Standing) → line_at r.line lines ≡ Some s → s.line.actor ≢ b) → (shared : Shared) (name : Option ℕ) → handle_named b name (with_effect before lines shared r).handles ≡ handle_named b name shared.handles
+effect-other before lines b r apart shared name = go (line_at r.line lines) refl
   where
-    go : (o : Option Standing) → line_at r.line lines ≡ o → handle_named b name (with_effect before lines hs r) ≡ handle_named b name hs
+    go : (o : Option Standing) → line_at r.line lines ≡ o → handle_named b name (with_effect before lines shared r).handles ≡ handle_named b name shared.handles
     go None is = rw is refl
-    go (Some s) is = rw is (kept-reply b (next_in before s) s.line r.reply hs name (apart s is))
+    go (Some s) is = rw is (kept-reply b (next_in before s) s.line r.reply shared name (apart s is))
 
--- the reply to an await
-await-reply : (next : Next) (line : Line) (said : Reply) (hs : List Opened) → said ≡ reply.Success → line.request ≡ Await → by_reply next line said hs ≡ hs
-await-reply next line said hs is awaits = rw (is, awaits) refl
+-- an await does nothing but wait
+await-waits : (before : Shared) (line : Line) (phase : Phase) → line.request ≡ Await → next_in before (record { line = line; phase = phase }) ≡ Waits
+await-waits before line Waiting awaits = refl
+await-waits before line (Begun heard) awaits = ap (λ (r : Request). next_of (view_of before line) r heard) awaits
+await-waits before line Replied awaits = refl
 
-pub effect-await : (before : List Opened) (lines : List Standing) (r : Answered) (s : Standing) → line_at r.line lines ≡ Some s → s.line.request ≡ Await → r.reply ≡ reply.Success → (hs : List Opened) → with_effect before lines hs r ≡ hs
-effect-await before lines r s stands awaits said hs = rw stands (await-reply (next_in before s) s.line r.reply hs said awaits)
+-- so that its reply has no effect
+pub effect-await : (before : Shared) (lines : List Standing) (r : Answered) (s : Standing) → line_at r.line lines ≡ Some s → s.line.request ≡ Await → r.reply ≡ reply.Success → (shared : Shared) → with_effect before lines shared r ≡ shared
+effect-await before lines r s stands awaits said shared =
+    let waits : next_in before s ≡ Waits = await-waits before s.line s.phase awaits in
+    rw (stands, said) (ap (λ (next : Next). succeeds next s.line shared) waits)

@@ -1,5 +1,6 @@
 -- Lines under changes of how far they have come.
 use Rattle.std.proofs.Common.{◌≡◌, ℕ, List, [], ◌∷◌, ◌++◌, map, fold, Bool, true, false, ◌==◌, if◌then◌else◌, Option, Some, None, refl, ap, ◌∙◌}
+use Rattle.mp_types.specs.declared.options.Opts.{Opts}
 use Rattle.bucket_model.specs.declared.answer.Brief.{Brief}
 use Rattle.mount_model.specs.declared.request.Line.{Line}
 use Rattle.mount_model.specs.declared.event.Event.{Event}
@@ -57,13 +58,13 @@ pub lines-steps : (state : ClientState) (steps : List Step) → map line_in (fol
 lines-steps state [] = refl
 lines-steps state (step ∷ steps) = lines-steps (after state step) steps ∙ lines-after state step
 
-pub lines-opening : (script : List Line) → map line_in (opening script).lines ≡ script
-lines-opening [] = refl
-lines-opening (line ∷ script) = ap (λ t. line ∷ t) (lines-opening script)
+pub lines-opening : (options : Opts) (script : List Line) → map line_in (opening options script).lines ≡ script
+lines-opening options [] = refl
+lines-opening options (line ∷ script) = ap (λ t. line ∷ t) (lines-opening options script)
 
 -- the lines of each state are those of the script
-pub lines_of_run : (script : List Line) (steps : List Step) → map line_in (state_after script steps).lines ≡ script
-lines_of_run script steps = lines-steps (opening script) steps ∙ lines-opening script
+pub lines_of_run : (options : Opts) (script : List Line) (steps : List Step) → map line_in (state_after options script steps).lines ≡ script
+lines_of_run options script steps = lines-steps (opening options script) steps ∙ lines-opening options script
 
 -- looking up after a change
 

@@ -1,13 +1,13 @@
 -- Each line begins at most once, and is answered at most once, behind its beginning.
 use Rattle.std.proofs.Common.{◌≡◌, ℕ, ◌+◌, ◌<◌, ◌≤◌, List, [], ◌∷◌, map, fold, length, cond, Bool, true, false, ◌==◌, Option, Some, None, inl, inr, refl, sym, ap, ◌∙◌, subst, arith, eqb-true, eq-eqb, ne_eqb}
 use Rattle.std.specs.List.{AllByRecursion}
+use Rattle.mp_types.specs.declared.options.Opts.{Opts}
 use Rattle.bucket_model.specs.Along.{Along}
 use Rattle.mount_model.specs.declared.request.Request.{Request}
-use Rattle.mount_model.specs.declared.request.Request.TheVariants.{Put, Await, Stat, OpenRead, Read, Close, Delete}
+use Rattle.mount_model.specs.declared.request.Request.TheVariants.{Put, Await, Stat, OpenRead, Read, Close, Delete, MakeDir, RemoveDir, Unlink}
 use Rattle.mount_model.specs.declared.request.Reply.{Reply}
 use Rattle.mount_model.specs.declared.request.Reply.TheVariants as reply
 use Rattle.mp_types.specs.declared.errno.Errno.TheVariants.{Enomem}
-use Rattle.mount_model.specs.declared.handle.Handle.{Handle}
 use Rattle.mount_model.specs.declared.request.Line.{Line}
 use Rattle.mount_model.specs.declared.event.Event.{Event}
 use Rattle.mount_model.specs.declared.event.Event.TheVariants.{Begin, Take, Done}
@@ -19,9 +19,8 @@ use Rattle.mount_model.specs.declared.standing.Phase.{Phase}
 use Rattle.mount_model.specs.declared.standing.Phase.TheVariants.{Waiting, Begun, Replied}
 use Rattle.mount_model.specs.declared.standing.Standing.{Standing}
 use Rattle.mount_model.specs.Step.{Step}
-use Rattle.mount_model.specs.State.{ClientState, Job, line_at, change_line, lines_at, with_replies, opening, after, state_after}
-use Rattle.mount_model.specs.Conversation.{Next, Asks, Replies, Opens, Gives, Waits, next_of}
-use Rattle.mount_model.specs.Handles.{handle_of}
+use Rattle.mount_model.specs.State.{ClientState, Job, view_of, line_at, change_line, lines_at, with_replies, opening, after, state_after}
+use Rattle.mount_model.specs.Conversation.{Next, Asks, Replies, Makes, Removes, Opens, Gives, Waits, View, next_of}
 use Rattle.mount_model.specs.Run.{AreRising, MayCome, TakesTurn, Turn, TurnOf, turn_at, due_awaits, IsLegalStep, IsRunSoFar, IsRun}
 use Rattle.run_laws.specs.Alive.{total, IsAlive}
 use Rattle.run_laws.specs.Order.{Rises, reply_line}
@@ -76,6 +75,9 @@ settled-moves-cons m number actor (OpenRead name path) (Begun heard) lines r mov
 settled-moves-cons m number actor (Read name offset count) (Begun heard) lines r moves = no-move m (standing number actor (Read name offset count) (Begun heard) ∷ lines)
 settled-moves-cons m number actor (Close name) (Begun heard) lines r moves = no-move m (standing number actor (Close name) (Begun heard) ∷ lines)
 settled-moves-cons m number actor (Delete key) (Begun heard) lines r moves = no-move m (standing number actor (Delete key) (Begun heard) ∷ lines)
+settled-moves-cons m number actor (MakeDir path) (Begun heard) lines r moves = no-move m (standing number actor (MakeDir path) (Begun heard) ∷ lines)
+settled-moves-cons m number actor (RemoveDir path) (Begun heard) lines r moves = no-move m (standing number actor (RemoveDir path) (Begun heard) ∷ lines)
+settled-moves-cons m number actor (Unlink path) (Begun heard) lines r moves = no-move m (standing number actor (Unlink path) (Begun heard) ∷ lines)
 settled-moves-cons m number actor request Replied lines r moves = moves-past m (standing number actor request Replied) (total (replies_to m) (due_awaits lines)) lines (settled lines) (λ same. no-replies m number (due_awaits lines) (omega arith) r) moves
 
 settled-moves : (m above : ℕ) (lines : List Standing) → Rises number_of above lines → Moves m 0 (total (replies_to m) (due_awaits lines)) lines (settled lines)
@@ -125,8 +127,8 @@ own-moves n line heard lines jobs said opened = by_number n (λ m. Moves m 0 (to
     let none : replies_to m (record { line = n; reply = said }) ≡ 0 = rw other refl in
     record { begun_is = omega arith; replied_is = omega arith })
 
-turn-moves : (n count : ℕ) (owner : Owner) (handle : Option Handle) (line : Line) (heard : Heard) (lines : List Standing) (jobs : List Job) (asks : List Ask) (own : List Answered) → IsOpen n line heard lines jobs → TakesTurn count (TurnOf n owner (next_of handle line.request heard)) asks own → (m : ℕ) → Moves m 0 (total (replies_to m) own) lines (with_replies lines own)
-turn-moves n count owner handle line heard lines jobs asks own opened turn m = go (next_of handle line.request heard) turn
+turn-moves : (n count : ℕ) (owner : Owner) (view : View) (line : Line) (heard : Heard) (lines : List Standing) (jobs : List Job) (asks : List Ask) (own : List Answered) → IsOpen n line heard lines jobs → TakesTurn count (TurnOf n owner (next_of view line.request heard)) asks own → (m : ℕ) → Moves m 0 (total (replies_to m) own) lines (with_replies lines own)
+turn-moves n count owner view line heard lines jobs asks own opened turn m = go (next_of view line.request heard) turn
   where
     moves_by : (replied : List Answered) → own ≡ replied → Moves m 0 (total (replies_to m) replied) lines (with_replies lines replied) → Moves m 0 (total (replies_to m) own) lines (with_replies lines own)
     moves_by replied e moves = subst (λ (t : List Answered). Moves m 0 (total (replies_to m) t) lines (with_replies lines t)) (sym e) moves
@@ -135,6 +137,9 @@ turn-moves n count owner handle line heard lines jobs asks own opened turn m = g
     go (Asks called) (inl t) = moves_by [] t.1 (no-move m lines)
     go (Asks called) (inr t) = moves_by _ t.1 (own-moves n line heard lines jobs (reply.Failed Enomem) opened m)
     go (Replies said) t = moves_by _ t.1 (own-moves n line heard lines jobs said opened m)
+    go (Makes key) (inl t) = moves_by _ t.1 (own-moves n line heard lines jobs reply.Success opened m)
+    go (Makes key) (inr t) = moves_by _ t.1 (own-moves n line heard lines jobs (reply.Failed Enomem) opened m)
+    go (Removes key) t = moves_by _ t.1 (own-moves n line heard lines jobs reply.Success opened m)
     go (Opens version) (inl t) = moves_by _ t.1 (own-moves n line heard lines jobs (reply.Open version.size) opened m)
     go (Opens version) (inr t) = moves_by _ t.1 (own-moves n line heard lines jobs (reply.Failed Enomem) opened m)
     go (Gives count) t = moves_by _ t.2.1 (own-moves n line heard lines jobs (reply.Data t.0) opened m)
@@ -147,7 +152,7 @@ moves-then m begun first second before between behind f s = let f1 = f.begun_is 
 
 opened-moves : (state : ClientState) (event : Event) (asks : List Ask) (own : List Answered) (m : ℕ) → IsOpened state event → TakesTurn (length state.jobs + 1) (turn_at state event) asks own → Moves m (begins m event) (0 + total (replies_to m) own) state.lines (with_replies (lines_at state.lines state.jobs event) own)
 opened-moves state event asks own m opened takes = moves-then m (begins m event) 0 (total (replies_to m) own) state.lines (lines_at state.lines state.jobs event) (with_replies (lines_at state.lines state.jobs event) own) (begun-moves state event opened m)
-    (turn-moves opened.n (length state.jobs + 1) opened.owner (handle_of opened.line state.handles) opened.line opened.heard (lines_at state.lines state.jobs event) _ asks own opened.now (subst (λ (t : Turn). TakesTurn (length state.jobs + 1) t asks own) opened.turn takes) m)
+    (turn-moves opened.n (length state.jobs + 1) opened.owner (view_of state.shared opened.line) opened.line opened.heard (lines_at state.lines state.jobs event) _ asks own opened.now (subst (λ (t : Turn). TakesTurn (length state.jobs + 1) t asks own) opened.turn takes) m)
 
 event-moves : (state : ClientState) (event : Event) (asks : List Ask) (own : List Answered) (m : ℕ) → IsAlive state → MayCome state event → TakesTurn (length state.jobs + 1) (turn_at state event) asks own → Moves m (begins m event) (0 + total (replies_to m) own) state.lines (with_replies (lines_at state.lines state.jobs event) own)
 event-moves state (Begin n time) asks own m alive may takes = opened-moves state (Begin n time) asks own m (begin-opens state n time alive may.1) takes
@@ -182,25 +187,25 @@ steps-move state (step ∷ steps) m alive run =
     let m2 = more.replied_is in
     record { begun_is = omega arith; replied_is = omega arith }
 
-opening-none : (count : Phase → ℕ) → count Waiting ≡ 0 → (m : ℕ) (script : List Line) → for_phase count (line_at m (opening script).lines) ≡ 0
-opening-none count none m [] = refl
-opening-none count none m (line ∷ script) = go (line.number == m) (opening-none count none m script)
+opening-none : (count : Phase → ℕ) → count Waiting ≡ 0 → (m : ℕ) (options : Opts) (script : List Line) → for_phase count (line_at m (opening options script).lines) ≡ 0
+opening-none count none m options [] = refl
+opening-none count none m options (line ∷ script) = go (line.number == m) (opening-none count none m options script)
   where
-    go : (b : Bool) → for_phase count (line_at m (opening script).lines) ≡ 0 → for_phase count (cond b (Some (record { line = line; phase = Waiting })) (line_at m (opening script).lines)) ≡ 0
+    go : (b : Bool) → for_phase count (line_at m (opening options script).lines) ≡ 0 → for_phase count (cond b (Some (record { line = line; phase = Waiting })) (line_at m (opening options script).lines)) ≡ 0
     go true e = none
     go false e = e
 
-pub begun_once : (script : List Line) (steps : List Step) (m : ℕ) → AreRising 0 script → IsRunSoFar script steps → begins_in m steps ≡ for_phase begun_in (line_at m (state_after script steps).lines)
-begun_once script steps m rising run =
-    let moves = steps-move (opening script) steps m (opening-alive script rising) run in
-    let none = opening-none begun_in refl m script in
+pub begun_once : (options : Opts) (script : List Line) (steps : List Step) (m : ℕ) → AreRising 0 script → IsRunSoFar options script steps → begins_in m steps ≡ for_phase begun_in (line_at m (state_after options script steps).lines)
+begun_once options script steps m rising run =
+    let moves = steps-move (opening options script) steps m (opening-alive options script rising) run in
+    let none = opening-none begun_in refl m options script in
     let is = moves.begun_is in
     omega arith
 
-pub replied_once : (script : List Line) (steps : List Step) (m : ℕ) → AreRising 0 script → IsRunSoFar script steps → replies_in m steps ≡ for_phase replied_in (line_at m (state_after script steps).lines)
-replied_once script steps m rising run =
-    let moves = steps-move (opening script) steps m (opening-alive script rising) run in
-    let none = opening-none replied_in refl m script in
+pub replied_once : (options : Opts) (script : List Line) (steps : List Step) (m : ℕ) → AreRising 0 script → IsRunSoFar options script steps → replies_in m steps ≡ for_phase replied_in (line_at m (state_after options script steps).lines)
+replied_once options script steps m rising run =
+    let moves = steps-move (opening options script) steps m (opening-alive options script rising) run in
+    let none = opening-none replied_in refl m options script in
     let is = moves.replied_is in
     omega arith
 
@@ -215,14 +220,14 @@ most : (o : Option Standing) → (for_phase replied_in o ≤ for_phase begun_in 
 most None = omega arith
 most (Some s) = phase-most s.phase
 
-pub begins_once : (script : List Line) (steps : List Step) (m : ℕ) → AreRising 0 script → IsRunSoFar script steps → begins_in m steps ≤ 1
-begins_once script steps m rising run = let is = begun_once script steps m rising run in let bound = most (line_at m (state_after script steps).lines) in omega arith
+pub begins_once : (options : Opts) (script : List Line) (steps : List Step) (m : ℕ) → AreRising 0 script → IsRunSoFar options script steps → begins_in m steps ≤ 1
+begins_once options script steps m rising run = let is = begun_once options script steps m rising run in let bound = most (line_at m (state_after options script steps).lines) in omega arith
 
-pub replies_behind : (script : List Line) (steps : List Step) (m : ℕ) → AreRising 0 script → IsRunSoFar script steps → replies_in m steps ≤ begins_in m steps
-replies_behind script steps m rising run =
-    let is = begun_once script steps m rising run in
-    let said = replied_once script steps m rising run in
-    let bound = most (line_at m (state_after script steps).lines) in
+pub replies_behind : (options : Opts) (script : List Line) (steps : List Step) (m : ℕ) → AreRising 0 script → IsRunSoFar options script steps → replies_in m steps ≤ begins_in m steps
+replies_behind options script steps m rising run =
+    let is = begun_once options script steps m rising run in
+    let said = replied_once options script steps m rising run in
+    let bound = most (line_at m (state_after options script steps).lines) in
     omega arith
 
 -- in a whole run each line has one reply
@@ -239,13 +244,13 @@ pub each-map : (P : Line → Type 0) (lines : List Standing) → AllByRecursion 
 each-map P [] all = tt
 each-map P (s ∷ lines) all = (all.0, each-map P lines all.1)
 
-pub each_replied : (script : List Line) (steps : List Step) → AreRising 0 script → IsRun script steps → AllByRecursion (λ line. replies_in line.number steps ≡ 1) script
-each_replied script steps rising run =
-    let lines : List Standing = (state_after script steps).lines in
-    let is_alive = alive script steps rising run.so_far in
+pub each_replied : (options : Opts) (script : List Line) (steps : List Step) → AreRising 0 script → IsRun options script steps → AllByRecursion (λ line. replies_in line.number steps ≡ 1) script
+each_replied options script steps rising run =
+    let lines : List Standing = (state_after options script steps).lines in
+    let is_alive = alive options script steps rising run.so_far in
     let one : (n : ℕ) (s : Standing) → line_at n lines ≡ Some s → replies_in s.line.number steps ≡ 1 = λ n s e.
     let number : s.line.number ≡ n = item_at-key number_of n lines s e in
     let replied : s.phase ≡ Replied = found-one (λ s. s.phase ≡ Replied) n lines s run.quiet.answered e in
-    ap (λ (k : ℕ). replies_in k steps) number ∙ replied_once script steps n rising run.so_far ∙ ap (for_phase replied_in) e ∙ ap replied_in replied in
-    subst (λ (t : List Line). AllByRecursion (λ line. replies_in line.number steps ≡ 1) t) (lines_of_run script steps)
+    ap (λ (k : ℕ). replies_in k steps) number ∙ replied_once options script steps n rising run.so_far ∙ ap (for_phase replied_in) e ∙ ap replied_in replied in
+    subst (λ (t : List Line). AllByRecursion (λ line. replies_in line.number steps ≡ 1) t) (lines_of_run options script steps)
     (each-map (λ line. replies_in line.number steps ≡ 1) lines (each-line (λ s. replies_in s.line.number steps ≡ 1) 0 lines (Rises-lines 0 lines is_alive.rising) one))

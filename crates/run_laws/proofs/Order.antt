@@ -1,9 +1,10 @@
 -- A step's asks and replies stand in order.
 use Rattle.std.proofs.Common.{◌≡◌, ℕ, ◌+◌, ◌<◌, List, [], ◌∷◌, ◌++◌, length, Bool, true, false, ◌==◌, if◌then◌else◌, inl, inr, refl, sym, ap, ◌∙◌, subst, subst₂, arith, eqb-true}
 use Rattle.std.specs.List.{AllByRecursion}
+use Rattle.mp_types.specs.declared.options.Opts.{Opts}
 use Rattle.bucket_model.specs.Along.{Along}
 use Rattle.mount_model.specs.declared.request.Request.{Request}
-use Rattle.mount_model.specs.declared.request.Request.TheVariants.{Put, Await, Stat, OpenRead, Read, Close, Delete}
+use Rattle.mount_model.specs.declared.request.Request.TheVariants.{Put, Await, Stat, OpenRead, Read, Close, Delete, MakeDir, RemoveDir, Unlink}
 use Rattle.mount_model.specs.declared.request.Line.{Line}
 use Rattle.mount_model.specs.declared.event.Event.{Event}
 use Rattle.mount_model.specs.declared.event.Event.TheVariants.{Begin, Take, Done}
@@ -13,9 +14,8 @@ use Rattle.mount_model.specs.declared.standing.Phase.{Phase}
 use Rattle.mount_model.specs.declared.standing.Phase.TheVariants.{Waiting, Begun, Replied}
 use Rattle.mount_model.specs.declared.standing.Standing.{Standing}
 use Rattle.mount_model.specs.Step.{Step}
-use Rattle.mount_model.specs.State.{ClientState, change_line, lines_at, with_replies, opening, after}
-use Rattle.mount_model.specs.Conversation.{Next, Asks, Replies, Opens, Gives, Waits, next_of}
-use Rattle.mount_model.specs.Handles.{handle_of}
+use Rattle.mount_model.specs.State.{ClientState, view_of, change_line, lines_at, with_replies, opening, after}
+use Rattle.mount_model.specs.Conversation.{Next, Asks, Replies, Makes, Removes, Opens, Gives, Waits, next_of}
 use Rattle.mount_model.specs.Run.{AreRising, MayCome, TakesTurn, Turn, TurnOf, turn_at, due_awaits, IsLegalStep, IsRunSoFar}
 use Rattle.run_laws.specs.Alive.{IsAlive}
 use Rattle.run_laws.specs.Order.{Rises, asked_job, reply_line, IsInOrder}
@@ -43,6 +43,9 @@ due-past-cons n number actor (OpenRead name path) (Begun heard) lines others e i
 due-past-cons n number actor (Read name offset count) (Begun heard) lines others e ih = tt
 due-past-cons n number actor (Close name) (Begun heard) lines others e ih = tt
 due-past-cons n number actor (Delete key) (Begun heard) lines others e ih = tt
+due-past-cons n number actor (MakeDir path) (Begun heard) lines others e ih = tt
+due-past-cons n number actor (RemoveDir path) (Begun heard) lines others e ih = tt
+due-past-cons n number actor (Unlink path) (Begun heard) lines others e ih = tt
 due-past-cons n number actor request Replied lines others e ih = ih e
 
 due-past : (above n : ℕ) (lines : List Standing) → Rises number_of above lines → due_awaits lines ≡ [] → Rises reply_line n (due_awaits (change_line n (λ phase. Replied) lines))
@@ -62,7 +65,7 @@ abbrev Ordered : List Standing → List Ask → List Answered → Type 0
 Ordered lines asks own = Rises asked_job 0 asks × Rises reply_line 0 (own ++ due_awaits (with_replies lines own))
 
 order-turn : (state : ClientState) (event : Event) (asks : List Ask) (own : List Answered) → IsAlive state → IsOpened state event → TakesTurn (length state.jobs + 1) (turn_at state event) asks own → Ordered (lines_at state.lines state.jobs event) asks own
-order-turn state event asks own alive opened takes = go (next_of (handle_of opened.line state.handles) opened.line.request opened.heard) (subst (λ (t : Turn). TakesTurn (length state.jobs + 1) t asks own) opened.turn takes)
+order-turn state event asks own alive opened takes = go (next_of (view_of state.shared opened.line) opened.line.request opened.heard) (subst (λ (t : Turn). TakesTurn (length state.jobs + 1) t asks own) opened.turn takes)
   where
     lines : List Standing
     lines = lines_at state.lines state.jobs event
@@ -88,6 +91,9 @@ order-turn state event asks own alive opened takes = go (next_of (handle_of open
     go (Asks called) (inl t) = ordered_by _ _ t.0 t.1 ((omega arith, tt), all)
     go (Asks called) (inr t) = ordered_by _ _ t.0 t.1 (tt, (here, below))
     go (Replies said) t = ordered_by _ _ t.0 t.1 (tt, (here, below))
+    go (Makes key) (inl t) = ordered_by _ _ t.0 t.1 (tt, (here, below))
+    go (Makes key) (inr t) = ordered_by _ _ t.0 t.1 (tt, (here, below))
+    go (Removes key) t = ordered_by _ _ t.0 t.1 (tt, (here, below))
     go (Opens version) (inl t) = ordered_by _ _ t.0 t.1 (tt, (here, below))
     go (Opens version) (inr t) = ordered_by _ _ t.0 t.1 (tt, (here, below))
     go (Gives count) t = ordered_by _ _ t.2.0 t.2.1 (tt, (here, below))
@@ -108,5 +114,5 @@ in_order-steps : (state : ClientState) (steps : List Step) → IsAlive state →
 in_order-steps state [] alive run = tt
 in_order-steps state (step ∷ steps) alive run = (in_order state step alive run.0, in_order-steps (after state step) steps (alive-step state step alive run.0) run.1)
 
-pub run_in_order : (script : List Line) (steps : List Step) → AreRising 0 script → IsRunSoFar script steps → AllByRecursion IsInOrder steps
-run_in_order script steps rising run = in_order-steps (opening script) steps (opening-alive script rising) run
+pub run_in_order : (options : Opts) (script : List Line) (steps : List Step) → AreRising 0 script → IsRunSoFar options script steps → AllByRecursion IsInOrder steps
+run_in_order options script steps rising run = in_order-steps (opening options script) steps (opening-alive options script rising) run

@@ -1,7 +1,7 @@
 -- Each actor does one thing at a time, and which lines may begin.
 use Rattle.std.proofs.Common.{◌≡◌, ℕ, ◌<◌, List, [], ◌∷◌, cond, Bool, true, false, ◌||◌, ◌==◌, if◌then◌else◌, Some, refl, sym, ap, ◌∙◌, arith, eqb-true, ne_eqb, subst, eq-eqb}
 use Rattle.mount_model.specs.declared.request.Request.{Request}
-use Rattle.mount_model.specs.declared.request.Request.TheVariants.{Put, Await, Stat, OpenRead, Read, Close, Delete}
+use Rattle.mount_model.specs.declared.request.Request.TheVariants.{Put, Await, Stat, OpenRead, Read, Close, Delete, MakeDir, RemoveDir, Unlink}
 use Rattle.mount_model.specs.declared.request.Line.{Line}
 use Rattle.mount_model.specs.declared.standing.Heard.{Heard}
 use Rattle.mount_model.specs.declared.standing.Phase.{Phase}
@@ -112,6 +112,9 @@ orderly-settled-cons busy number actor (OpenRead name path) (Begun heard) lines 
 orderly-settled-cons busy number actor (Read name offset count) (Begun heard) lines ih o = o
 orderly-settled-cons busy number actor (Close name) (Begun heard) lines ih o = o
 orderly-settled-cons busy number actor (Delete key) (Begun heard) lines ih o = o
+orderly-settled-cons busy number actor (MakeDir path) (Begun heard) lines ih o = o
+orderly-settled-cons busy number actor (RemoveDir path) (Begun heard) lines ih o = o
+orderly-settled-cons busy number actor (Unlink path) (Begun heard) lines ih o = o
 orderly-settled-cons busy number actor request Replied lines ih o = (o.0, ih busy o.1)
 
 pub orderly-settled : (lines : List Standing) (busy : List ℕ) → AreOrderly busy lines → AreOrderly busy (settled lines)

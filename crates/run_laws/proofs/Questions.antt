@@ -2,13 +2,15 @@
 use Rattle.std.proofs.Common.{◌≡◌, ℕ, ◌+◌, ◌*◌, ◌<◌, ◌≤◌, List, [], ◌∷◌, ◌++◌, length, find, cond, Bool, true, false, if◌then◌else◌, Option, Some, None, is_some, option_map, refl, ap, ◌∙◌, arith}
 use Rattle.std.proofs.lemmas.Cmp.{nat_list_eq_equiv}
 use Rattle.mp_types.specs.Path.{slash}
-use Rattle.mp_rules.specs.declared.entry.Entry.TheVariants.{Directory, File, Nothing}
+use Rattle.mp_rules.specs.declared.entry.Entry.TheVariants.{RemoteDir, LocalDir, File, Nothing}
+use Rattle.mp_rules.specs.declared.entry.Local.{Local}
+use Rattle.mp_rules.specs.declared.entry.Local.TheVariants as local
 use Rattle.mp_rules.specs.declared.facts.Question.{Question}
 use Rattle.mp_rules.specs.declared.facts.Question.TheVariants.{Head, Probe}
 use Rattle.mp_rules.specs.declared.facts.Fact.{Fact}
 use Rattle.mp_rules.specs.declared.facts.Fact.TheVariants.{Found, Missing, Yes, No}
 use Rattle.mp_rules.specs.declared.facts.Known.{Known}
-use Rattle.mp_rules.specs.Walk.{is_question, fact_in, with_known, Decision, Need, Is, Refused, by_head, by_probe, entry_at, below, walk, stands_at}
+use Rattle.mp_rules.specs.Walk.{is_question, fact_in, with_known, Decision, Need, Is, Refused, by_head, by_local, by_probe, entry_at, below, walk}
 use Rattle.run_laws.specs.Work.{if_unknown, if_open, open_at, open_from, open_along}
 
 -- a question that gets its answer
@@ -56,8 +58,8 @@ learns known k = go (fact_in known k.question) refl
 entry-kept : (facts more : Question → Option Fact) (question : Question) (key : List ℕ) → Learns facts more question → open_at more key ≤ open_at facts key
 entry-kept facts more question key learned = let probe = learned.kept (Probe key) in let head = learned.kept (Head key) in omega arith
 
-entry-falls : (facts more : Question → Option Fact) (question : Question) (key : List ℕ) → Learns facts more question → entry_at facts key ≡ Need question → open_at more key < open_at facts key
-entry-falls facts more question key learned asks = go (facts (Probe key)) refl asks
+entry-falls : (facts more : Question → Option Fact) (local_of : List ℕ → Local) (question : Question) (key : List ℕ) → Learns facts more question → entry_at facts local_of key ≡ Need question → open_at more key < open_at facts key
+entry-falls facts more local_of question key learned asks = go (facts (Probe key)) refl asks
   where
     head : (o : Option Fact) → facts (Head key) ≡ o → by_head key o ≡ Need question → open_at more key < open_at facts key
     head None unknown is =
@@ -71,17 +73,22 @@ entry-falls facts more question key learned asks = go (facts (Probe key)) refl a
     head (Some Yes) known is = absurd (cc)
     head (Some No) known is = absurd (cc)
 
-    go : (o : Option Fact) → facts (Probe key) ≡ o → by_probe key o (facts (Head key)) ≡ Need question → open_at more key < open_at facts key
+    no_key : (here : Local) → by_local key here (facts (Head key)) ≡ Need question → open_at more key < open_at facts key
+    no_key local.None is = head (facts (Head key)) refl is
+    no_key local.Dir is = absurd (cc)
+    no_key local.File is = head (facts (Head key)) refl is
+
+    go : (o : Option Fact) → facts (Probe key) ≡ o → by_probe key o (local_of key) (facts (Head key)) ≡ Need question → open_at more key < open_at facts key
     go None unknown is =
         let same : Probe key ≡ question = cc in
         let before : if_open facts (Probe key) ≡ 1 = ap if_unknown unknown in
         let behind : if_open more (Probe key) ≡ 0 = ap (if_open more) same ∙ learned.told in
         let other = learned.kept (Head key) in
         omega arith
-    go (Some (Found etag size)) known is = head (facts (Head key)) refl is
-    go (Some Missing) known is = head (facts (Head key)) refl is
+    go (Some (Found etag size)) known is = no_key (local_of key) is
+    go (Some Missing) known is = no_key (local_of key) is
     go (Some Yes) known is = absurd (cc)
-    go (Some No) known is = head (facts (Head key)) refl is
+    go (Some No) known is = no_key (local_of key) is
 
 walk-kept : (facts more : Question → Option Fact) (question : Question) (key : List ℕ) (names : List (List ℕ)) → Learns facts more question → open_from more key names ≤ open_from facts key names
 walk-kept facts more question key [] learned = entry-kept facts more question key learned
@@ -90,19 +97,23 @@ walk-kept facts more question key (name ∷ names) learned =
     let rest = walk-kept facts more question (key ++ slash ∷ name) names learned in
     omega arith
 
-walk-falls : (facts more : Question → Option Fact) (question : Question) (key : List ℕ) (names : List (List ℕ)) → Learns facts more question → walk facts key names ≡ Need question → open_from more key names < open_from facts key names
-walk-falls facts more question key [] learned asks = entry-falls facts more question key learned asks
-walk-falls facts more question key (name ∷ names) learned asks = go (entry_at facts key) refl asks (walk-falls facts more question (key ++ slash ∷ name) names learned)
+walk-falls : (facts more : Question → Option Fact) (local_of : List ℕ → Local) (question : Question) (key : List ℕ) (names : List (List ℕ)) → Learns facts more question → walk facts local_of key names ≡ Need question → open_from more key names < open_from facts key names
+walk-falls facts more local_of question key [] learned asks = entry-falls facts more local_of question key learned asks
+walk-falls facts more local_of question key (name ∷ names) learned asks = go (entry_at facts local_of key) refl asks (walk-falls facts more local_of question (key ++ slash ∷ name) names learned)
   where
     longer : List ℕ
     longer = key ++ slash ∷ name
 
-    go : (decision : Decision) → entry_at facts key ≡ decision → below decision (walk facts longer names) ≡ Need question → (walk facts longer names ≡ Need question → open_from more longer names < open_from facts longer names) → open_at more key + open_from more longer names < open_at facts key + open_from facts longer names
+    go : (decision : Decision) → entry_at facts local_of key ≡ decision → below decision (walk facts local_of longer names) ≡ Need question → (walk facts local_of longer names ≡ Need question → open_from more longer names < open_from facts longer names) → open_at more key + open_from more longer names < open_at facts key + open_from facts longer names
     go (Need asked) at is rest =
-        let here = entry-falls facts more question key learned (at ∙ is) in
+        let here = entry-falls facts more local_of question key learned (at ∙ is) in
         let kept = walk-kept facts more question longer names learned in
         omega arith
-    go (Is Directory) at is rest =
+    go (Is RemoteDir) at is rest =
+        let here = entry-kept facts more question key learned in
+        let falls = rest is in
+        omega arith
+    go (Is LocalDir) at is rest =
         let here = entry-kept facts more question key learned in
         let falls = rest is in
         omega arith
@@ -111,11 +122,10 @@ walk-falls facts more question key (name ∷ names) learned asks = go (entry_at 
     go (Refused errno) at is rest = absurd (cc)
 
 -- the answer to the question that is asked leaves fewer open
-pub path-falls : (known : List Known) (names : List (List ℕ)) (question : Question) (fact : Fact) → stands_at (fact_in known) names ≡ Need question → open_along (fact_in (with_known (record { question = question; fact = fact }) known)) names < open_along (fact_in known) names
-path-falls known [] question fact asks = absurd (cc)
-path-falls known (name ∷ names) question fact asks =
+pub path-falls : (known : List Known) (local_of : List ℕ → Local) (name : List ℕ) (names : List (List ℕ)) (question : Question) (fact : Fact) → walk (fact_in known) local_of name names ≡ Need question → open_along (fact_in (with_known (record { question = question; fact = fact }) known)) (name ∷ names) < open_along (fact_in known) (name ∷ names)
+path-falls known local_of name names question fact asks =
     let k : Known = record { question = question; fact = fact } in
-    walk-falls (fact_in known) (fact_in (with_known k known)) question name names (learns known k) asks
+    walk-falls (fact_in known) (fact_in (with_known k known)) local_of question name names (learns known k) asks
 
 -- two questions for each name
 

@@ -1,8 +1,9 @@
 -- Where no line may begin and no job is left, each line has its reply.
 use Rattle.std.proofs.Common.{◌≡◌, ℕ, List, [], ◌∷◌, Some, refl, sym, ap, ◌∙◌, arith}
 use Rattle.std.specs.List.{AllByRecursion}
+use Rattle.mp_types.specs.declared.options.Opts.{Opts}
 use Rattle.mount_model.specs.declared.request.Request.{Request}
-use Rattle.mount_model.specs.declared.request.Request.TheVariants.{Put, Await, Stat, OpenRead, Read, Close, Delete}
+use Rattle.mount_model.specs.declared.request.Request.TheVariants.{Put, Await, Stat, OpenRead, Read, Close, Delete, MakeDir, RemoveDir, Unlink}
 use Rattle.mount_model.specs.declared.standing.Phase.{Phase}
 use Rattle.mount_model.specs.declared.standing.Phase.TheVariants.{Waiting, Begun, Replied}
 use Rattle.mount_model.specs.declared.standing.Standing.{Standing}
@@ -38,6 +39,9 @@ answered-cons number actor (OpenRead name path) (Begun heard) lines none due sta
 answered-cons number actor (Read name offset count) (Begun heard) lines none due start ih = absurd (omega arith)
 answered-cons number actor (Close name) (Begun heard) lines none due start ih = absurd (omega arith)
 answered-cons number actor (Delete key) (Begun heard) lines none due start ih = absurd (omega arith)
+answered-cons number actor (MakeDir path) (Begun heard) lines none due start ih = absurd (omega arith)
+answered-cons number actor (RemoveDir path) (Begun heard) lines none due start ih = absurd (omega arith)
+answered-cons number actor (Unlink path) (Begun heard) lines none due start ih = absurd (omega arith)
 answered-cons number actor request Replied lines none due start ih = (refl, ih due start)
 
 answered : (lines : List Standing) → AllByRecursion (λ s. jobs_wanted (Some s) ≡ 0) lines → due_awaits lines ≡ [] → startable_from [] lines ≡ [] → AllByRecursion (λ s. s.phase ≡ Replied) lines
@@ -52,5 +56,5 @@ quiet state alive start gone =
       gone = gone;
     }
 
-pub no_reply_lost : (script : List Line) (steps : List Step) → AreRising 0 script → IsRunSoFar script steps → startable (state_after script steps).lines ≡ [] → AllByRecursion (λ job. job.phase ≡ Gone) (state_after script steps).jobs → IsQuiet (state_after script steps)
-no_reply_lost script steps rising run start gone = quiet (state_after script steps) (alive script steps rising run) start gone
+pub no_reply_lost : (options : Opts) (script : List Line) (steps : List Step) → AreRising 0 script → IsRunSoFar options script steps → startable (state_after options script steps).lines ≡ [] → AllByRecursion (λ job. job.phase ≡ Gone) (state_after options script steps).jobs → IsQuiet (state_after options script steps)
+no_reply_lost options script steps rising run start gone = quiet (state_after options script steps) (alive options script steps rising run) start gone

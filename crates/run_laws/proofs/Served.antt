@@ -3,7 +3,7 @@ use Rattle.std.proofs.Common.{◌≡◌, ◌≢◌, ℕ, zero, suc, ◌≤◌, L
 use Rattle.std.proofs.lemmas.Bool.{eqb-false}
 use Rattle.bucket_model.specs.declared.call.Call.{Call}
 use Rattle.mount_model.specs.declared.request.Request.{Request}
-use Rattle.mount_model.specs.declared.request.Request.TheVariants.{Put, Await, Stat, OpenRead, Read, Close, Delete}
+use Rattle.mount_model.specs.declared.request.Request.TheVariants.{Put, Await, Stat, OpenRead, Read, Close, Delete, MakeDir, RemoveDir, Unlink}
 use Rattle.mount_model.specs.declared.standing.Heard.{Heard}
 use Rattle.mount_model.specs.declared.standing.Phase.{Phase}
 use Rattle.mount_model.specs.declared.standing.Phase.TheVariants.{Waiting, Begun, Replied}
@@ -25,9 +25,6 @@ served state number job alive stands live =
     let due = owner-due state number job.line job alive stands refl live in
     record { standing = record { line = due.line; phase = Begun due.heard }; stands = due.stands; heard = due.heard; begun = refl; no_await = await-none due.line.request due.wants }
 
-pub owner_turn : (state : ClientState) (number from : ℕ) (job : Job) → IsAlive state → job_at number state.jobs ≡ Some job → job.phase ≡ Out from → IsOwned state job
-owner_turn state number from job alive stands out = served state number job alive stands (λ gone. absurd (cc))
-
 -- no two live jobs have one line
 
 wanted-request : (request : Request) → jobs_at_once request ≤ 1
@@ -38,6 +35,9 @@ wanted-request (OpenRead name path) = omega arith
 wanted-request (Read name offset count) = omega arith
 wanted-request (Close name) = omega arith
 wanted-request (Delete key) = omega arith
+wanted-request (MakeDir path) = omega arith
+wanted-request (RemoveDir path) = omega arith
+wanted-request (Unlink path) = omega arith
 
 wanted-phase : (phase : Phase) (count : ℕ) → count ≤ 1 → if_begun phase count ≤ 1
 wanted-phase Waiting count h = omega arith
@@ -101,6 +101,9 @@ working-request (OpenRead name path) other = refl
 working-request (Read name offset count) other = refl
 working-request (Close name) other = refl
 working-request (Delete key) other = refl
+working-request (MakeDir path) other = refl
+working-request (RemoveDir path) other = refl
+working-request (Unlink path) other = refl
 
 pub working : (state : ClientState) (n : ℕ) (s : Standing) (heard : Heard) → IsAlive state → line_at n state.lines ≡ Some s → s.phase ≡ Begun heard → s.line.request ≢ Await → HasJob state n
 working state n s heard alive stands begun other =

@@ -1,7 +1,7 @@
 -- The lines once all awaits that are due have their replies.
 use Rattle.std.proofs.Common.{◌≡◌, ℕ, ◌<◌, ◌≤◌, List, [], ◌∷◌, cond, Bool, true, false, ◌==◌, Some, refl, ap, ◌∙◌, arith, eq-eqb, ne_eqb}
 use Rattle.mount_model.specs.declared.request.Request.{Request}
-use Rattle.mount_model.specs.declared.request.Request.TheVariants.{Put, Await, Stat, OpenRead, Read, Close, Delete}
+use Rattle.mount_model.specs.declared.request.Request.TheVariants.{Put, Await, Stat, OpenRead, Read, Close, Delete, MakeDir, RemoveDir, Unlink}
 use Rattle.mount_model.specs.declared.event.Answered.{Answered}
 use Rattle.mount_model.specs.declared.standing.Phase.{Phase}
 use Rattle.mount_model.specs.declared.standing.Phase.TheVariants.{Waiting, Begun, Replied}
@@ -33,6 +33,9 @@ settled (s ∷ lines) = by_phase s.phase (settled lines)
         by_request (Read name offset count) = s ∷ lines
         by_request (Close name) = s ∷ lines
         by_request (Delete key) = s ∷ lines
+        by_request (MakeDir path) = s ∷ lines
+        by_request (RemoveDir path) = s ∷ lines
+        by_request (Unlink path) = s ∷ lines
     by_phase Replied more = s ∷ more
 
 -- the awaits that are due stand in order
@@ -45,6 +48,9 @@ due-rise-cons above number actor (OpenRead name path) (Begun heard) lines h r = 
 due-rise-cons above number actor (Read name offset count) (Begun heard) lines h r = tt
 due-rise-cons above number actor (Close name) (Begun heard) lines h r = tt
 due-rise-cons above number actor (Delete key) (Begun heard) lines h r = tt
+due-rise-cons above number actor (MakeDir path) (Begun heard) lines h r = tt
+due-rise-cons above number actor (RemoveDir path) (Begun heard) lines h r = tt
+due-rise-cons above number actor (Unlink path) (Begun heard) lines h r = tt
 due-rise-cons above number actor request Replied lines h r = Rises-below reply_line above number (due_awaits lines) (omega arith) r
 
 pub due-rise : (above : ℕ) (lines : List Standing) → Rises number_of above lines → Rises reply_line above (due_awaits lines)
@@ -73,6 +79,9 @@ settled-cons number actor (OpenRead name path) (Begun heard) lines r e = refl
 settled-cons number actor (Read name offset count) (Begun heard) lines r e = refl
 settled-cons number actor (Close name) (Begun heard) lines r e = refl
 settled-cons number actor (Delete key) (Begun heard) lines r e = refl
+settled-cons number actor (MakeDir path) (Begun heard) lines r e = refl
+settled-cons number actor (RemoveDir path) (Begun heard) lines r e = refl
+settled-cons number actor (Unlink path) (Begun heard) lines r e = refl
 settled-cons number actor request Replied lines r e = replies-past number (standing number actor request Replied) lines (due_awaits lines) (omega arith) (due-rise number lines r) ∙ ap (λ t. standing number actor request Replied ∷ t) e
 
 -- so answered, the lines are these
@@ -90,6 +99,9 @@ settled-due-cons number actor (OpenRead name path) (Begun heard) lines e = refl
 settled-due-cons number actor (Read name offset count) (Begun heard) lines e = refl
 settled-due-cons number actor (Close name) (Begun heard) lines e = refl
 settled-due-cons number actor (Delete key) (Begun heard) lines e = refl
+settled-due-cons number actor (MakeDir path) (Begun heard) lines e = refl
+settled-due-cons number actor (RemoveDir path) (Begun heard) lines e = refl
+settled-due-cons number actor (Unlink path) (Begun heard) lines e = refl
 settled-due-cons number actor request Replied lines e = e
 
 pub settled-due : (lines : List Standing) → due_awaits (settled lines) ≡ []
@@ -110,6 +122,9 @@ settled-wanted-cons n number actor (OpenRead name path) (Begun heard) lines e = 
 settled-wanted-cons n number actor (Read name offset count) (Begun heard) lines e = refl
 settled-wanted-cons n number actor (Close name) (Begun heard) lines e = refl
 settled-wanted-cons n number actor (Delete key) (Begun heard) lines e = refl
+settled-wanted-cons n number actor (MakeDir path) (Begun heard) lines e = refl
+settled-wanted-cons n number actor (RemoveDir path) (Begun heard) lines e = refl
+settled-wanted-cons n number actor (Unlink path) (Begun heard) lines e = refl
 settled-wanted-cons n number actor request Replied lines e = go (number == n)
   where
     go : (b : Bool) → jobs_wanted (cond b (Some (standing number actor request Replied)) (line_at n (settled lines))) ≡ jobs_wanted (cond b (Some (standing number actor request Replied)) (line_at n lines))

@@ -1,6 +1,7 @@
 -- The bytes that a read gives are those of the version that its handle opened.
 use Rattle.std.proofs.Common.{◌≡◌, ℕ, ◌+◌, List, [], ◌∷◌, ◌++◌, length, Option, Some, None, inl, inr, refl, sym, ap, ◌∙◌, subst}
 use Rattle.std.specs.List.{AllByRecursion}
+use Rattle.mp_types.specs.declared.options.Opts.{Opts}
 use Rattle.mp_rules.specs.declared.facts.Known.{Known}
 use Rattle.bucket_model.specs.declared.call.Call.{Call}
 use Rattle.bucket_model.specs.declared.call.Call.TheVariants as call
@@ -13,7 +14,7 @@ use Rattle.bucket_model.specs.Bucket.{ObjectVersion, IsSlice}
 use Rattle.mount_model.specs.declared.handle.Handle.{Handle}
 use Rattle.mount_model.specs.declared.handle.Version.{Version}
 use Rattle.mount_model.specs.declared.request.Request.{Request}
-use Rattle.mount_model.specs.declared.request.Request.TheVariants.{Put, Await, Stat, OpenRead, Read, Close, Delete}
+use Rattle.mount_model.specs.declared.request.Request.TheVariants.{Put, Await, Stat, OpenRead, Read, Close, Delete, MakeDir, RemoveDir, Unlink}
 use Rattle.mount_model.specs.declared.request.Reply.{Reply}
 use Rattle.mount_model.specs.declared.request.Reply.TheVariants as reply
 use Rattle.mount_model.specs.declared.request.Line.{Line}
@@ -27,9 +28,9 @@ use Rattle.mount_model.specs.declared.standing.Standing.{Standing}
 use Rattle.mount_model.specs.declared.standing.Told.{Told}
 use Rattle.mount_model.specs.Heard.{nothing_heard, with_told, question_of, told_by}
 use Rattle.mount_model.specs.Step.{Step}
-use Rattle.mount_model.specs.Conversation.{Next, Asks, Replies, Opens, Gives, Waits, Range, range_in, range_next, read_next, next_of}
+use Rattle.mount_model.specs.Conversation.{Next, Asks, Replies, Makes, Removes, Opens, Gives, Waits, View, Range, range_in, range_next, read_next, next_of}
 use Rattle.mount_model.specs.Handles.{handle_of}
-use Rattle.mount_model.specs.State.{ClientState, Job, Out, line_at, job_at, change_line, heard, hears, lines_at, with_replies, state_after}
+use Rattle.mount_model.specs.State.{ClientState, Job, Out, line_at, job_at, view_of, change_line, heard, hears, lines_at, with_replies, state_after}
 use Rattle.mount_model.specs.Run.{AreRising, TakesTurn, Turn, TurnOf, due_awaits, IsLegalStep, IsRunSoFar}
 use Rattle.mount_model.specs.Reads.{IsRangeOf, IsReadOf, IsDataFor, IsReadReply, GivesOnly}
 use Rattle.run_laws.specs.Alive.{IsAlive}
@@ -81,14 +82,17 @@ read-slice : (versions : List ObjectVersion) (handle : Option Handle) (offset as
 read-slice versions None offset asked before called said count asks gives slice = absurd (cc)
 read-slice versions (Some handle) offset asked before called said count asks gives slice = range-slice versions handle.version (range_in offset asked handle.version.size) before.facts before.answers called said count asks gives slice
 
-request-slice : (versions : List ObjectVersion) (handle : Option Handle) (request : Request) (before : Heard) (called : Call) (said : Answer) (count : ℕ) → IsRead request → next_of handle request before ≡ Asks called → next_of handle request (with_told (told_by (question_of called) (brief_of said)) before) ≡ Gives count → IsSlice versions called said → IsDataFor versions request handle (bytes_in said)
-request-slice versions handle (Read name offset asked) before called said count read asks gives slice = read-slice versions handle offset asked before called said count asks gives slice
-request-slice versions handle (Put key content) before called said count read asks gives slice = absurd read
-request-slice versions handle Await before called said count read asks gives slice = absurd read
-request-slice versions handle (Stat path) before called said count read asks gives slice = absurd read
-request-slice versions handle (OpenRead name path) before called said count read asks gives slice = absurd read
-request-slice versions handle (Close name) before called said count read asks gives slice = absurd read
-request-slice versions handle (Delete key) before called said count read asks gives slice = absurd read
+request-slice : (versions : List ObjectVersion) (view : View) (request : Request) (before : Heard) (called : Call) (said : Answer) (count : ℕ) → IsRead request → next_of view request before ≡ Asks called → next_of view request (with_told (told_by (question_of called) (brief_of said)) before) ≡ Gives count → IsSlice versions called said → IsDataFor versions request view.handle (bytes_in said)
+request-slice versions view (Read name offset asked) before called said count read asks gives slice = read-slice versions view.handle offset asked before called said count asks gives slice
+request-slice versions view (Put key content) before called said count read asks gives slice = absurd read
+request-slice versions view Await before called said count read asks gives slice = absurd read
+request-slice versions view (Stat path) before called said count read asks gives slice = absurd read
+request-slice versions view (OpenRead name path) before called said count read asks gives slice = absurd read
+request-slice versions view (Close name) before called said count read asks gives slice = absurd read
+request-slice versions view (Delete key) before called said count read asks gives slice = absurd read
+request-slice versions view (MakeDir path) before called said count read asks gives slice = absurd read
+request-slice versions view (RemoveDir path) before called said count read asks gives slice = absurd read
+request-slice versions view (Unlink path) before called said count read asks gives slice = absurd read
 
 -- a read that asks for nothing gives nothing
 
@@ -100,14 +104,17 @@ read-nothing : (versions : List ObjectVersion) (handle : Option Handle) (offset 
 read-nothing versions None offset asked count gives = absurd (cc)
 read-nothing versions (Some handle) offset asked count gives = range-nothing versions handle.version (range_in offset asked handle.version.size) count gives
 
-request-nothing : (versions : List ObjectVersion) (handle : Option Handle) (request : Request) (count : ℕ) → IsRead request → next_of handle request nothing_heard ≡ Gives count → IsDataFor versions request handle []
-request-nothing versions handle (Read name offset asked) count read gives = read-nothing versions handle offset asked count gives
-request-nothing versions handle (Put key content) count read gives = absurd read
-request-nothing versions handle Await count read gives = absurd read
-request-nothing versions handle (Stat path) count read gives = absurd read
-request-nothing versions handle (OpenRead name path) count read gives = absurd read
-request-nothing versions handle (Close name) count read gives = absurd read
-request-nothing versions handle (Delete key) count read gives = absurd read
+request-nothing : (versions : List ObjectVersion) (view : View) (request : Request) (count : ℕ) → IsRead request → next_of view request nothing_heard ≡ Gives count → IsDataFor versions request view.handle []
+request-nothing versions view (Read name offset asked) count read gives = read-nothing versions view.handle offset asked count gives
+request-nothing versions view (Put key content) count read gives = absurd read
+request-nothing versions view Await count read gives = absurd read
+request-nothing versions view (Stat path) count read gives = absurd read
+request-nothing versions view (OpenRead name path) count read gives = absurd read
+request-nothing versions view (Close name) count read gives = absurd read
+request-nothing versions view (Delete key) count read gives = absurd read
+request-nothing versions view (MakeDir path) count read gives = absurd read
+request-nothing versions view (RemoveDir path) count read gives = absurd read
+request-nothing versions view (Unlink path) count read gives = absurd read
 
 -- the replies of a step
 
@@ -138,14 +145,14 @@ own-decide versions now step alive legal own =
     (all-append (IsReadReply versions now) legal.own dues own (all-more (IsAwaited lines) (IsReadReply versions now) (awaited-reply versions now lines) dues (due-here now step alive legal)))
 
 -- where the line whose turn it is may give these bytes alone
-turn-reads : (versions : List ObjectVersion) (now : ClientState) (step : Step) (wanted : List ℕ) → IsAlive now → IsLegalStep now step → (opened : IsOpened now step.event) → ((count : ℕ) → next_of (handle_of opened.line now.handles) opened.line.request opened.heard ≡ Gives count → IsDataFor versions opened.line.request (handle_of opened.line now.handles) wanted) → AllByRecursion (GivesOnly wanted) step.replies → AllByRecursion (IsReadReply versions now) step.replies
+turn-reads : (versions : List ObjectVersion) (now : ClientState) (step : Step) (wanted : List ℕ) → IsAlive now → IsLegalStep now step → (opened : IsOpened now step.event) → ((count : ℕ) → next_of (view_of now.shared opened.line) opened.line.request opened.heard ≡ Gives count → IsDataFor versions opened.line.request (handle_of opened.line now.shared.handles) wanted) → AllByRecursion (GivesOnly wanted) step.replies → AllByRecursion (IsReadReply versions now) step.replies
 turn-reads versions now step wanted alive legal opened gives only = own-decide versions now step alive legal (go next refl (subst (λ (t : Turn). TakesTurn (length now.jobs + 1) t step.asks legal.own) opened.turn legal.turn))
   where
     n : ℕ
     n = opened.n
 
     next : Next
-    next = next_of (handle_of opened.line now.handles) opened.line.request opened.heard
+    next = next_of (view_of now.shared opened.line) opened.line.request opened.heard
 
     own_only : AllByRecursion (GivesOnly wanted) legal.own
     own_only = all-front (GivesOnly wanted) legal.own (due_awaits (with_replies (lines_at now.lines now.jobs step.event) legal.own)) (subst (AllByRecursion (GivesOnly wanted)) legal.replies only)
@@ -163,7 +170,10 @@ turn-reads versions now step wanted alive legal opened gives only = own-decide v
     go : (now_next : Next) → next ≡ now_next → TakesTurn (length now.jobs + 1) (TurnOf n opened.owner now_next) step.asks legal.own → AllByRecursion (IsReadReply versions now) legal.own
     go (Asks called) is (inl t) = by _ t.1 tt
     go (Asks called) is (inr t) = by _ t.1 (tt, tt)
-    go (Replies said) is t = by _ t.1 (plain-reply versions now n said (replies-plain (handle_of opened.line now.handles) opened.line.request opened.heard said is), tt)
+    go (Replies said) is t = by _ t.1 (plain-reply versions now n said (replies-plain (view_of now.shared opened.line) opened.line.request opened.heard said is), tt)
+    go (Makes key) is (inl t) = by _ t.1 (tt, tt)
+    go (Makes key) is (inr t) = by _ t.1 (tt, tt)
+    go (Removes key) is t = by _ t.1 (tt, tt)
     go (Opens version) is (inl t) = by _ t.1 (tt, tt)
     go (Opens version) is (inr t) = by _ t.1 (tt, tt)
     go (Gives count) is t = by _ t.2.1 (data_reply count t.0 is t.2.1, tt)
@@ -194,7 +204,7 @@ done-at versions now number position said job drops asks replies alive faithful 
     opened : IsOpened now (Done number position (brief_of said))
     opened = done-opens now number position (brief_of said) alive legal.may_come
 
-    gives : (count : ℕ) → next_of (handle_of opened.line now.handles) opened.line.request opened.heard ≡ Gives count → IsDataFor versions opened.line.request (handle_of opened.line now.handles) (bytes_in said)
+    gives : (count : ℕ) → next_of (view_of now.shared opened.line) opened.line.request opened.heard ≡ Gives count → IsDataFor versions opened.line.request (handle_of opened.line now.shared.handles) (bytes_in said)
     gives count is =
         let may = legal.may_come in
         let both : Some may.job ≡ Some job = sym may.stands ∙ stands in
@@ -208,10 +218,12 @@ done-at versions now number position said job drops asks replies alive faithful 
         let here : line_at may.job.line lines ≡ Some (record { line = due.line; phase = Begun (with_told told due.heard) }) =
         ap (line_at may.job.line) (hears-is (job_at number now.jobs) may.job (brief_of said) now.lines may.stands) ∙ line_at-same may.job.line (heard told) now.lines (record { line = due.line; phase = Begun due.heard }) due.stands in
         let so = stands-so opened.line due.line opened.heard (with_told told due.heard) (line_at opened.n lines) opened.now.stands (ap (λ (k : ℕ). line_at k lines) (sym number_is) ∙ here) in
-        let makes : next_of (handle_of due.line now.handles) due.line.request due.heard ≡ Asks may.job.call = sym (next_at-begun now.handles may.job.line due.line due.heard now.lines due.stands) ∙ faithful.makes number may.job may.stands (λ gone. absurd (cc)) in
-        let asked : next_of (handle_of opened.line now.handles) opened.line.request due.heard ≡ Asks job.call = ap (λ (l : Line). next_of (handle_of l now.handles) l.request due.heard) so.same_line ∙ makes ∙ ap (λ (j : Job). Asks j.call) same_job in
-        let given : next_of (handle_of opened.line now.handles) opened.line.request (with_told (told_by (question_of job.call) (brief_of said)) due.heard) ≡ Gives count = ap (λ (j : Job). next_of (handle_of opened.line now.handles) opened.line.request (with_told (told_by (question_of j.call) (brief_of said)) due.heard)) (sym same_job) ∙ ap (next_of (handle_of opened.line now.handles) opened.line.request) (sym so.same_heard) ∙ is in
-        request-slice versions (handle_of opened.line now.handles) opened.line.request due.heard job.call said count (gives-read (handle_of opened.line now.handles) opened.line.request opened.heard count is) asked given slice
+        let read = gives-read (view_of now.shared opened.line) opened.line.request opened.heard count is in
+        let due_reads : IsRead due.line.request = subst (λ (l : Line). IsRead l.request) so.same_line read in
+        let makes : next_of (view_of now.shared due.line) due.line.request due.heard ≡ Asks may.job.call = sym (next_at-begun now.shared may.job.line due.line due.heard now.lines due.stands) ∙ faithful.reads number may.job may.stands (λ gone. absurd (cc)) (record { line = due.line; phase = Begun due.heard }) due.stands due_reads in
+        let asked : next_of (view_of now.shared opened.line) opened.line.request due.heard ≡ Asks job.call = ap (λ (l : Line). next_of (view_of now.shared l) l.request due.heard) so.same_line ∙ makes ∙ ap (λ (j : Job). Asks j.call) same_job in
+        let given : next_of (view_of now.shared opened.line) opened.line.request (with_told (told_by (question_of job.call) (brief_of said)) due.heard) ≡ Gives count = ap (λ (j : Job). next_of (view_of now.shared opened.line) opened.line.request (with_told (told_by (question_of j.call) (brief_of said)) due.heard)) (sym same_job) ∙ ap (next_of (view_of now.shared opened.line) opened.line.request) (sym so.same_heard) ∙ is in
+        request-slice versions (view_of now.shared opened.line) opened.line.request due.heard job.call said count read asked given slice
 
 begun-at : (versions : List ObjectVersion) (now : ClientState) (line time : ℕ) (drops : List ℕ) (asks : List Ask) (replies : List Answered) → IsAlive now → IsLegalStep now (record { event = Begin line time; drops = drops; asks = asks; replies = replies }) → AllByRecursion (GivesOnly []) replies → AllByRecursion (IsReadReply versions now) replies
 begun-at versions now line time drops asks replies alive legal only = turn-reads versions now step [] alive legal opened gives only
@@ -222,7 +234,7 @@ begun-at versions now line time drops asks replies alive legal only = turn-reads
     opened : IsOpened now (Begin line time)
     opened = begin-opens now line time alive legal.may_come.1
 
-    gives : (count : ℕ) → next_of (handle_of opened.line now.handles) opened.line.request opened.heard ≡ Gives count → IsDataFor versions opened.line.request (handle_of opened.line now.handles) []
+    gives : (count : ℕ) → next_of (view_of now.shared opened.line) opened.line.request opened.heard ≡ Gives count → IsDataFor versions opened.line.request (handle_of opened.line now.shared.handles) []
     gives count is =
         let found = startable-found 0 line [] now.lines (Rises-lines 0 now.lines alive.rising) legal.may_come.1 in
         let numbers : Some line ≡ Some opened.n = opened.of_line in
@@ -230,8 +242,8 @@ begun-at versions now line time drops asks replies alive legal only = turn-reads
         let lines : List Standing = change_line line (λ phase. Begun nothing_heard) now.lines in
         let here : line_at line lines ≡ Some (record { line = found.line; phase = Begun nothing_heard }) = line_at-same line (λ phase. Begun nothing_heard) now.lines (record { line = found.line; phase = Waiting }) found.stands in
         let so = stands-so opened.line found.line opened.heard nothing_heard (line_at opened.n lines) opened.now.stands (ap (λ (k : ℕ). line_at k lines) (sym number_is) ∙ here) in
-        let given : next_of (handle_of opened.line now.handles) opened.line.request nothing_heard ≡ Gives count = ap (next_of (handle_of opened.line now.handles) opened.line.request) (sym so.same_heard) ∙ is in
-        request-nothing versions (handle_of opened.line now.handles) opened.line.request count (gives-read (handle_of opened.line now.handles) opened.line.request opened.heard count is) given
+        let given : next_of (view_of now.shared opened.line) opened.line.request nothing_heard ≡ Gives count = ap (next_of (view_of now.shared opened.line) opened.line.request) (sym so.same_heard) ∙ is in
+        request-nothing versions (view_of now.shared opened.line) opened.line.request count (gives-read (view_of now.shared opened.line) opened.line.request opened.heard count is) given
 
 taken-at : (versions : List ObjectVersion) (now : ClientState) (number time from : ℕ) (drops : List ℕ) (asks : List Ask) (replies : List Answered) → IsAlive now → IsLegalStep now (record { event = Take number time from; drops = drops; asks = asks; replies = replies }) → AllByRecursion (IsReadReply versions now) replies
 taken-at versions now number time from drops asks replies alive legal = own-decide versions now (record { event = Take number time from; drops = drops; asks = asks; replies = replies }) alive legal (subst (AllByRecursion (IsReadReply versions now)) (sym legal.turn.1) tt)
@@ -252,12 +264,12 @@ taken_reads versions now step number time from alive legal is =
 
 -- and behind a run
 
-pub run_done_reads : (versions : List ObjectVersion) (script : List Line) (steps : List Step) (step : Step) (number position : ℕ) (said : Answer) (job : Job) → AreRising 0 script → IsRunSoFar script steps → IsLegalStep (state_after script steps) step → step.event ≡ Done number position (brief_of said) → job_at number (state_after script steps).jobs ≡ Some job → IsSlice versions job.call said → AllByRecursion (GivesOnly (bytes_in said)) step.replies → AllByRecursion (IsReadReply versions (state_after script steps)) step.replies
-run_done_reads versions script steps step number position said job rising run legal is stands slice only =
-    done_reads versions (state_after script steps) step number position said job (alive script steps rising run) (faithful script steps rising run) legal is stands slice only
+pub run_done_reads : (versions : List ObjectVersion) (options : Opts) (script : List Line) (steps : List Step) (step : Step) (number position : ℕ) (said : Answer) (job : Job) → AreRising 0 script → IsRunSoFar options script steps → IsLegalStep (state_after options script steps) step → step.event ≡ Done number position (brief_of said) → job_at number (state_after options script steps).jobs ≡ Some job → IsSlice versions job.call said → AllByRecursion (GivesOnly (bytes_in said)) step.replies → AllByRecursion (IsReadReply versions (state_after options script steps)) step.replies
+run_done_reads versions options script steps step number position said job rising run legal is stands slice only =
+    done_reads versions (state_after options script steps) step number position said job (alive options script steps rising run) (faithful options script steps rising run) legal is stands slice only
 
-pub run_begun_reads : (versions : List ObjectVersion) (script : List Line) (steps : List Step) (step : Step) (line time : ℕ) → AreRising 0 script → IsRunSoFar script steps → IsLegalStep (state_after script steps) step → step.event ≡ Begin line time → AllByRecursion (GivesOnly []) step.replies → AllByRecursion (IsReadReply versions (state_after script steps)) step.replies
-run_begun_reads versions script steps step line time rising run legal is only = begun_reads versions (state_after script steps) step line time (alive script steps rising run) legal is only
+pub run_begun_reads : (versions : List ObjectVersion) (options : Opts) (script : List Line) (steps : List Step) (step : Step) (line time : ℕ) → AreRising 0 script → IsRunSoFar options script steps → IsLegalStep (state_after options script steps) step → step.event ≡ Begin line time → AllByRecursion (GivesOnly []) step.replies → AllByRecursion (IsReadReply versions (state_after options script steps)) step.replies
+run_begun_reads versions options script steps step line time rising run legal is only = begun_reads versions (state_after options script steps) step line time (alive options script steps rising run) legal is only
 
-pub run_taken_reads : (versions : List ObjectVersion) (script : List Line) (steps : List Step) (step : Step) (number time from : ℕ) → AreRising 0 script → IsRunSoFar script steps → IsLegalStep (state_after script steps) step → step.event ≡ Take number time from → AllByRecursion (IsReadReply versions (state_after script steps)) step.replies
-run_taken_reads versions script steps step number time from rising run legal is = taken_reads versions (state_after script steps) step number time from (alive script steps rising run) legal is
+pub run_taken_reads : (versions : List ObjectVersion) (options : Opts) (script : List Line) (steps : List Step) (step : Step) (number time from : ℕ) → AreRising 0 script → IsRunSoFar options script steps → IsLegalStep (state_after options script steps) step → step.event ≡ Take number time from → AllByRecursion (IsReadReply versions (state_after options script steps)) step.replies
+run_taken_reads versions options script steps step number time from rising run legal is = taken_reads versions (state_after options script steps) step number time from (alive options script steps rising run) legal is

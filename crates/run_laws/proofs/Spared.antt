@@ -2,7 +2,7 @@
 use Rattle.std.proofs.Common.{◌≡◌, ◌≢◌, ℕ, List, [], ◌∷◌, ◌++◌, map, find, fold, cond, Bool, true, false, ◌==◌, Option, Some, None, option_map, refl, sym, ap, ◌∙◌, subst}
 use Rattle.std.specs.List.{AllByRecursion}
 use Rattle.mount_model.specs.declared.request.Request.{Request}
-use Rattle.mount_model.specs.declared.request.Request.TheVariants.{Put, Await, Stat, OpenRead, Read, Close, Delete}
+use Rattle.mount_model.specs.declared.request.Request.TheVariants.{Put, Await, Stat, OpenRead, Read, Close, Delete, MakeDir, RemoveDir, Unlink}
 use Rattle.mount_model.specs.declared.request.Reply.TheVariants as reply
 use Rattle.mount_model.specs.declared.request.Line.{Line}
 use Rattle.mount_model.specs.declared.event.Answered.{Answered}
@@ -11,16 +11,15 @@ use Rattle.mount_model.specs.declared.standing.Phase.{Phase}
 use Rattle.mount_model.specs.declared.standing.Phase.TheVariants.{Waiting, Begun, Replied}
 use Rattle.mount_model.specs.declared.standing.Standing.{Standing}
 use Rattle.mount_model.specs.Step.{Step}
-use Rattle.mount_model.specs.Conversation.{next_of}
-use Rattle.mount_model.specs.Handles.{Opened, name_in, handle_named, handle_of}
-use Rattle.mount_model.specs.State.{ClientState, line_at, lines_at, next_at, with_answered, with_replies, with_effect, handles_after, after}
+use Rattle.mount_model.specs.Handles.{name_in, handle_named, handle_of}
+use Rattle.mount_model.specs.State.{Shared, ClientState, line_at, lines_at, with_answered, with_replies, with_effect, after}
 use Rattle.mount_model.specs.Run.{due_awaits, IsLegalStep}
 use Rattle.run_laws.specs.Alive.{IsAlive}
 use Rattle.run_laws.proofs.Keyed.{Rises, item_at-first, item_at-later}
 use Rattle.run_laws.proofs.Lines.{line_in, number_of, Rises-lines, lines-replies, line_at-other}
 use Rattle.run_laws.proofs.Settled.{standing}
 use Rattle.run_laws.proofs.Handles.{effect-await}
-use Rattle.run_laws.proofs.Alive.{next_at-begun, closed-event}
+use Rattle.run_laws.proofs.Alive.{closed-event}
 
 pub all-more : {X : Type 0} (P Q : X → Type 0) → ((x : X) → P x → Q x) → (xs : List X) → AllByRecursion P xs → AllByRecursion Q xs
 all-more P Q more [] all = tt
@@ -53,6 +52,9 @@ due-awaited-cons above number actor (OpenRead name path) (Begun heard) lines ris
 due-awaited-cons above number actor (Read name offset count) (Begun heard) lines rises all = tt
 due-awaited-cons above number actor (Close name) (Begun heard) lines rises all = tt
 due-awaited-cons above number actor (Delete key) (Begun heard) lines rises all = tt
+due-awaited-cons above number actor (MakeDir path) (Begun heard) lines rises all = tt
+due-awaited-cons above number actor (RemoveDir path) (Begun heard) lines rises all = tt
+due-awaited-cons above number actor (Unlink path) (Begun heard) lines rises all = tt
 due-awaited-cons above number actor request Replied lines rises all =
     let first : Standing = standing number actor request Replied in
     all-more (IsAwaited lines) (IsAwaited (first ∷ lines)) (awaited-later above first lines rises) (due_awaits lines) all
@@ -84,20 +86,20 @@ awaited-same lines others same r is = go (line_at r.line others) refl (found-lin
 
 pub record Spares (lines : List Standing) (m actor : ℕ) (r : Answered) : Type 0 where
   pub apart : r.line ≢ m
-  pub handles : (before hs : List Opened) (name : Option ℕ) → handle_named actor name (with_effect before lines hs r) ≡ handle_named actor name hs
+  pub handles : (before shared : Shared) (name : Option ℕ) → handle_named actor name (with_effect before lines shared r).handles ≡ handle_named actor name shared.handles
 
 spared-line : (lines : List Standing) (m actor : ℕ) (replies : List Answered) → AllByRecursion (Spares lines m actor) replies → (others : List Standing) → line_at m (with_replies others replies) ≡ line_at m others
 spared-line lines m actor [] all others = refl
 spared-line lines m actor (r ∷ replies) all others = spared-line lines m actor replies all.1 (with_answered others r) ∙ line_at-other r.line m (λ phase. Replied) others (λ e. all.0.apart (sym e))
 
-spared-handles : (before : List Opened) (lines : List Standing) (m actor : ℕ) (replies : List Answered) → AllByRecursion (Spares lines m actor) replies → (hs : List Opened) (name : Option ℕ) → handle_named actor name (fold (with_effect before lines) hs replies) ≡ handle_named actor name hs
-spared-handles before lines m actor [] all hs name = refl
-spared-handles before lines m actor (r ∷ replies) all hs name = spared-handles before lines m actor replies all.1 (with_effect before lines hs r) name ∙ all.0.handles before hs name
+spared-handles : (before : Shared) (lines : List Standing) (m actor : ℕ) (replies : List Answered) → AllByRecursion (Spares lines m actor) replies → (shared : Shared) (name : Option ℕ) → handle_named actor name (fold (with_effect before lines) shared replies).handles ≡ handle_named actor name shared.handles
+spared-handles before lines m actor [] all shared name = refl
+spared-handles before lines m actor (r ∷ replies) all shared name = spared-handles before lines m actor replies all.1 (with_effect before lines shared r) name ∙ all.0.handles before shared name
 
 awaited-spares : (lines : List Standing) (m actor : ℕ) → ((s : Standing) → line_at m lines ≡ Some s → s.line.request ≢ Await) → (r : Answered) → IsAwaited lines r → Spares lines m actor r
 awaited-spares lines m actor other r is = record {
   apart = λ e. other is.standing (ap (λ (n : ℕ). line_at n lines) (sym e) ∙ is.stands) is.awaits;
-  handles = λ before hs name. ap (handle_named actor name) (effect-await before lines r is.standing is.stands is.awaits is.said hs);
+  handles = λ before shared name. ap (λ (t : Shared). handle_named actor name t.handles) (effect-await before lines r is.standing is.stands is.awaits is.said shared);
 }
 
 -- the awaits that are due behind a step's event and its own replies
@@ -118,11 +120,16 @@ step-spares state step m line heard alive legal stands other own =
     subst (AllByRecursion (Spares lines m line.actor)) (sym legal.replies)
     (all-append (Spares lines m line.actor) legal.own dues own (all-more (IsAwaited lines) (Spares lines m line.actor) (awaited-spares lines m line.actor not_here) dues (due-here state step alive legal)))
 
--- a line that has begun and is spared does next behind the step what it did before
-pub left-next : (state : ClientState) (step : Step) (m : ℕ) (line : Line) (heard : Heard) → IsAlive state → (legal : IsLegalStep state step) → line_at m (lines_at state.lines state.jobs step.event) ≡ Some (record { line = line; phase = Begun heard }) → line.request ≢ Await → AllByRecursion (Spares (lines_at state.lines state.jobs step.event) m line.actor) legal.own → next_at (after state step).handles m (after state step).lines ≡ next_of (handle_of line state.handles) line.request heard
-left-next state step m line heard alive legal stands other own =
+-- a line that has begun and is spared stands behind the step as before it, with its handle
+pub record IsLeft (state behind : ClientState) (m : ℕ) (line : Line) (heard : Heard) : Type 0 where
+  pub stands : line_at m behind.lines ≡ Some (record { line = line; phase = Begun heard })
+  pub handle : handle_of line behind.shared.handles ≡ handle_of line state.shared.handles
+
+pub left-line : (state : ClientState) (step : Step) (m : ℕ) (line : Line) (heard : Heard) → IsAlive state → (legal : IsLegalStep state step) → line_at m (lines_at state.lines state.jobs step.event) ≡ Some (record { line = line; phase = Begun heard }) → line.request ≢ Await → AllByRecursion (Spares (lines_at state.lines state.jobs step.event) m line.actor) legal.own → IsLeft state (after state step) m line heard
+left-line state step m line heard alive legal stands other own =
     let lines : List Standing = lines_at state.lines state.jobs step.event in
     let all = step-spares state step m line heard alive legal stands other own in
-    let stays : line_at m (with_replies lines step.replies) ≡ Some (record { line = line; phase = Begun heard }) = spared-line lines m line.actor step.replies all lines ∙ stands in
-    let handle : handle_of line (handles_after state.handles lines step.replies) ≡ handle_of line state.handles = spared-handles state.handles lines m line.actor step.replies all state.handles (name_in line.request) in
-    next_at-begun (handles_after state.handles lines step.replies) m line heard (with_replies lines step.replies) stays ∙ ap (λ h. next_of h line.request heard) handle
+    record {
+      stands = spared-line lines m line.actor step.replies all lines ∙ stands;
+      handle = spared-handles state.shared lines m line.actor step.replies all state.shared (name_in line.request);
+    }

@@ -1,8 +1,7 @@
 -- The turn of a line: all is served but this line, until it asks, replies or waits.
-use Rattle.std.proofs.Common.{◌≡◌, ℕ, ◌+◌, ◌≤◌, List, [], ◌∷◌, ◌++◌, map, length, Bool, true, false, ◌==◌, Option, Some, inl, inr, refl, sym, ap, ◌∙◌, subst, subst₂, arith, append-nil, eqb-true, eq-eqb, ne_eqb}
+use Rattle.std.proofs.Common.{◌≡◌, ℕ, ◌+◌, ◌≤◌, List, [], ◌∷◌, ◌++◌, map, length, Bool, true, false, ◌==◌, Some, inl, inr, refl, sym, ap, ◌∙◌, subst, subst₂, arith, append-nil, eqb-true, eq-eqb, ne_eqb}
 use Rattle.std.proofs.lemmas.Bool.{eqb-false}
 use Rattle.bucket_model.specs.declared.call.Call.{Call}
-use Rattle.mount_model.specs.declared.handle.Handle.{Handle}
 use Rattle.mount_model.specs.declared.request.Line.{Line}
 use Rattle.mount_model.specs.declared.event.Owner.{Owner}
 use Rattle.mount_model.specs.declared.event.Ask.{Ask}
@@ -10,9 +9,8 @@ use Rattle.mount_model.specs.declared.event.Answered.{Answered}
 use Rattle.mount_model.specs.declared.standing.Heard.{Heard}
 use Rattle.mount_model.specs.declared.standing.Phase.TheVariants.{Begun, Replied}
 use Rattle.mount_model.specs.declared.standing.Standing.{Standing}
-use Rattle.mount_model.specs.State.{Job, Ready, line_at, change_line, with_replies, job_of}
-use Rattle.mount_model.specs.Conversation.{Next, Asks, Replies, Opens, Gives, Waits, next_of}
-use Rattle.mount_model.specs.Handles.{Opened}
+use Rattle.mount_model.specs.State.{Shared, Job, Ready, line_at, change_line, with_replies, job_of}
+use Rattle.mount_model.specs.Conversation.{Next, Asks, Replies, Makes, Removes, Opens, Gives, Waits, View, next_of}
 use Rattle.mount_model.specs.Run.{AreRising, TakesTurn, TurnOf, asked_of, due_awaits}
 use Rattle.run_laws.specs.Alive.{total, AreNumbered, live_job, live_jobs, if_line, jobs_at_once, jobs_wanted, AreOrderly, IsAlive}
 use Rattle.run_laws.proofs.Keyed.{total-append}
@@ -94,24 +92,27 @@ close-wait n line heard lines jobs opened waits = record {
   balanced = by_number n (λ m. live_jobs m jobs ≡ jobs_wanted (line_at m lines)) (opened.none ∙ sym (ap jobs_wanted opened.stands ∙ waits)) opened.balanced;
 }
 
-pub close-turn : (n count : ℕ) (owner : Owner) (handle : Option Handle) (line : Line) (heard : Heard) (old lines : List Standing) (jobs : List Job) (asks : List Ask) (own : List Answered) → IsOpen n line heard lines jobs → count ≡ length jobs → TakesTurn (count + 1) (TurnOf n owner (next_of handle line.request heard)) asks own → IsClosed (with_replies lines own) (jobs ++ map (job_of old n) asks)
-close-turn n count owner handle line heard old lines jobs asks own opened is turn = go (next_of handle line.request heard) refl turn
+pub close-turn : (n count : ℕ) (owner : Owner) (view : View) (line : Line) (heard : Heard) (old lines : List Standing) (jobs : List Job) (asks : List Ask) (own : List Answered) → IsOpen n line heard lines jobs → count ≡ length jobs → TakesTurn (count + 1) (TurnOf n owner (next_of view line.request heard)) asks own → IsClosed (with_replies lines own) (jobs ++ map (job_of old n) asks)
+close-turn n count owner view line heard old lines jobs asks own opened is turn = go (next_of view line.request heard) refl turn
   where
     closed_by : (asked : List Ask) (replied : List Answered) → asks ≡ asked → own ≡ replied → IsClosed (with_replies lines replied) (jobs ++ map (job_of old n) asked) → IsClosed (with_replies lines own) (jobs ++ map (job_of old n) asks)
     closed_by asked replied e f closed = subst₂ (λ (x : List Ask) (y : List Answered). IsClosed (with_replies lines y) (jobs ++ map (job_of old n) x)) (sym e) (sym f) closed
 
-    go : (next : Next) → next_of handle line.request heard ≡ next → TakesTurn (count + 1) (TurnOf n owner next) asks own → IsClosed (with_replies lines own) (jobs ++ map (job_of old n) asks)
-    go (Asks called) next (inl t) = closed_by _ _ t.0 t.1 (close-asks n (count + 1) line heard lines jobs _ opened (asks-one handle line.request heard called next) (omega arith))
+    go : (next : Next) → next_of view line.request heard ≡ next → TakesTurn (count + 1) (TurnOf n owner next) asks own → IsClosed (with_replies lines own) (jobs ++ map (job_of old n) asks)
+    go (Asks called) next (inl t) = closed_by _ _ t.0 t.1 (close-asks n (count + 1) line heard lines jobs _ opened (asks-one view line.request heard called next) (omega arith))
     go (Asks called) next (inr t) = closed_by _ _ t.0 t.1 (rw append-nil (close-reply n line heard lines jobs opened))
     go (Replies said) next t = closed_by _ _ t.0 t.1 (rw append-nil (close-reply n line heard lines jobs opened))
+    go (Makes key) next (inl t) = closed_by _ _ t.0 t.1 (rw append-nil (close-reply n line heard lines jobs opened))
+    go (Makes key) next (inr t) = closed_by _ _ t.0 t.1 (rw append-nil (close-reply n line heard lines jobs opened))
+    go (Removes key) next t = closed_by _ _ t.0 t.1 (rw append-nil (close-reply n line heard lines jobs opened))
     go (Opens version) next (inl t) = closed_by _ _ t.0 t.1 (rw append-nil (close-reply n line heard lines jobs opened))
     go (Opens version) next (inr t) = closed_by _ _ t.0 t.1 (rw append-nil (close-reply n line heard lines jobs opened))
     go (Gives count) next t = closed_by _ _ t.2.0 t.2.1 (rw append-nil (close-reply n line heard lines jobs opened))
-    go Waits next t = closed_by _ _ t.0 t.1 (rw append-nil (close-wait n line heard lines jobs opened (only_await_waits handle line.request heard next)))
+    go Waits next t = closed_by _ _ t.0 t.1 (rw append-nil (close-wait n line heard lines jobs opened (only_await_waits view line.request heard next)))
 
 -- and the awaits that are due have their replies
-pub settle : (time : ℕ) (lines : List Standing) (jobs : List Job) (positions : List ℕ) (handles : List Opened) → IsClosed lines jobs → IsAlive (record { time = time; lines = with_replies lines (due_awaits lines); jobs = jobs; positions = positions; handles = handles })
-settle time lines jobs positions handles closed =
+pub settle : (time : ℕ) (lines : List Standing) (jobs : List Job) (positions : List ℕ) (shared : Shared) → IsClosed lines jobs → IsAlive (record { time = time; lines = with_replies lines (due_awaits lines); jobs = jobs; positions = positions; shared = shared })
+settle time lines jobs positions shared closed =
     let same : with_replies lines (due_awaits lines) ≡ settled lines = settled-is 0 lines (Rises-lines 0 lines closed.rising) in
     record {
       rising = rw (lines-replies lines (due_awaits lines)) closed.rising;
@@ -123,8 +124,8 @@ settle time lines jobs positions handles closed =
 
 -- how much is left behind a turn
 
-pub turn-work : (n count : ℕ) (owner : Owner) (handle : Option Handle) (line : Line) (heard : Heard) (old lines : List Standing) (jobs : List Job) (asks : List Ask) (own : List Answered) → IsOpen n line heard lines jobs → TakesTurn count (TurnOf n owner (next_of handle line.request heard)) asks own → total line_work (with_replies lines own) + total job_work (jobs ++ map (job_of old n) asks) ≤ total line_work lines + total job_work jobs + asked_work (next_of handle line.request heard)
-turn-work n count owner handle line heard old lines jobs asks own opened turn = go (next_of handle line.request heard) turn
+pub turn-work : (n count : ℕ) (owner : Owner) (view : View) (line : Line) (heard : Heard) (old lines : List Standing) (jobs : List Job) (asks : List Ask) (own : List Answered) → IsOpen n line heard lines jobs → TakesTurn count (TurnOf n owner (next_of view line.request heard)) asks own → total line_work (with_replies lines own) + total job_work (jobs ++ map (job_of old n) asks) ≤ total line_work lines + total job_work jobs + asked_work (next_of view line.request heard)
+turn-work n count owner view line heard old lines jobs asks own opened turn = go (next_of view line.request heard) turn
   where
     left_by : (asked : List Ask) (replied : List Answered) (left : ℕ) → asks ≡ asked → own ≡ replied → total line_work (with_replies lines replied) + total job_work (jobs ++ map (job_of old n) asked) ≤ left → total line_work (with_replies lines own) + total job_work (jobs ++ map (job_of old n) asks) ≤ left
     left_by asked replied left e f h = subst₂ (λ (x : List Ask) (y : List Answered). total line_work (with_replies lines y) + total job_work (jobs ++ map (job_of old n) x) ≤ left) (sym e) (sym f) h
@@ -136,6 +137,9 @@ turn-work n count owner handle line heard old lines jobs asks own opened turn = 
     go (Asks called) (inl t) = left_by (record { job = count; owner = owner; call = asked_of called } ∷ []) [] _ t.0 t.1 (let sum = total-append job_work jobs (map (job_of old n) (record { job = count; owner = owner; call = asked_of called } ∷ [])) in omega arith)
     go (Asks called) (inr t) = left_by [] _ _ t.0 t.1 (let less = by_reply in omega arith)
     go (Replies said) t = left_by [] _ _ t.0 t.1 (let less = by_reply in omega arith)
+    go (Makes key) (inl t) = left_by [] _ _ t.0 t.1 (let less = by_reply in omega arith)
+    go (Makes key) (inr t) = left_by [] _ _ t.0 t.1 (let less = by_reply in omega arith)
+    go (Removes key) t = left_by [] _ _ t.0 t.1 (let less = by_reply in omega arith)
     go (Opens version) (inl t) = left_by [] _ _ t.0 t.1 (let less = by_reply in omega arith)
     go (Opens version) (inr t) = left_by [] _ _ t.0 t.1 (let less = by_reply in omega arith)
     go (Gives count) t = left_by [] _ _ t.2.0 t.2.1 (let less = by_reply in omega arith)

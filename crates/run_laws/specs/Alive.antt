@@ -1,7 +1,7 @@
 -- What holds of the mount's state after each step of a run.
 use Rattle.std.specs.Prelude.{◌≡◌, ℕ, ◌+◌, List, [], ◌∷◌, map, false, ◌==◌, if◌then◌else◌, Option, Some, None}
 use Rattle.mount_model.specs.declared.request.Request.{Request}
-use Rattle.mount_model.specs.declared.request.Request.TheVariants.{Put, Await, Stat, OpenRead, Read, Close, Delete}
+use Rattle.mount_model.specs.declared.request.Request.TheVariants.{Put, Await, Stat, OpenRead, Read, Close, Delete, MakeDir, RemoveDir, Unlink}
 use Rattle.mount_model.specs.declared.standing.Phase.{Phase}
 use Rattle.mount_model.specs.declared.standing.Phase.TheVariants.{Waiting, Begun, Replied}
 use Rattle.mount_model.specs.declared.standing.Standing.{Standing}
@@ -45,6 +45,9 @@ jobs_at_once (OpenRead name path) = 1
 jobs_at_once (Read name offset count) = 1
 jobs_at_once (Close name) = 1
 jobs_at_once (Delete key) = 1
+jobs_at_once (MakeDir path) = 1
+jobs_at_once (RemoveDir path) = 1
+jobs_at_once (Unlink path) = 1
 
 abbrev pub if_begun : Phase → ℕ → ℕ
 if_begun Waiting count = 0

@@ -8,7 +8,7 @@ use Rattle.mp_rules.specs.declared.facts.Fact.{Fact}
 use Rattle.mp_rules.specs.Walk.{fact_in}
 use Rattle.bucket_model.specs.declared.answer.Brief.{Brief}
 use Rattle.mount_model.specs.declared.request.Request.{Request}
-use Rattle.mount_model.specs.declared.request.Request.TheVariants.{Put, Await, Stat, OpenRead, Read, Close, Delete}
+use Rattle.mount_model.specs.declared.request.Request.TheVariants.{Put, Await, Stat, OpenRead, Read, Close, Delete, MakeDir, RemoveDir, Unlink}
 use Rattle.mount_model.specs.declared.standing.Heard.{Heard}
 use Rattle.mount_model.specs.declared.standing.Phase.{Phase}
 use Rattle.mount_model.specs.declared.standing.Phase.TheVariants.{Waiting, Begun, Replied}
@@ -49,18 +49,22 @@ abbrev pub open_along : (Question → Option Fact) → List (List ℕ) → ℕ
 open_along facts [] = 0
 open_along facts (name ∷ names) = open_from facts name names
 
-abbrev pub path_left : Result (List (List ℕ)) PathFault → Heard → ℕ
-path_left (Err why) heard = 0
-path_left (Ok names) heard = unless_answered heard.answers (open_along (fact_in heard.facts) names)
+-- and so many calls behind them, by what stands at the path
+abbrev pub path_left : ℕ → Result (List (List ℕ)) PathFault → Heard → ℕ
+path_left behind (Err why) heard = 0
+path_left behind (Ok names) heard = unless_answered heard.answers (open_along (fact_in heard.facts) names + behind)
 
 abbrev pub calls_left : Request → Heard → ℕ
 calls_left (Put key content) heard = one_left heard.answers
 calls_left Await heard = 0
-calls_left (Stat path) heard = path_left (path_of path) heard
-calls_left (OpenRead name path) heard = path_left (path_of path) heard
+calls_left (Stat path) heard = path_left 0 (path_of path) heard
+calls_left (OpenRead name path) heard = path_left 0 (path_of path) heard
 calls_left (Read name offset count) heard = one_left heard.answers
 calls_left (Close name) heard = 0
 calls_left (Delete key) heard = one_left heard.answers
+calls_left (MakeDir path) heard = path_left 0 (path_of path) heard
+calls_left (RemoveDir path) heard = path_left 0 (path_of path) heard
+calls_left (Unlink path) heard = path_left 1 (path_of path) heard
 
 -- steps still to come: to begin, and two for each call, to take it and to hear its answer
 

@@ -5,6 +5,7 @@
 
 ghost use Rattle.std.specs.Prelude.{◌≡◌, ◌≢◌, ℕ, ◌+◌, ◌*◌, ◌<◌, ◌≤◌, List, [], ◌∷◌, ◌++◌, map, length, Option, Some, Result, Ok, Err};
 ghost use Rattle.std.specs.List.{AllByRecursion};
+ghost use Rattle.mp_types.specs.declared.options.Opts.{Opts};
 ghost use Rattle.mp_types.specs.Path.{path_of};
 ghost use Rattle.mp_types.specs.declared.octets.Data.{Data};
 ghost use Rattle.mp_types.specs.declared.path.PathFault.{PathFault};
@@ -13,7 +14,6 @@ ghost use Rattle.bucket_model.specs.declared.answer.Brief.{Brief};
 ghost use Rattle.bucket_model.specs.declared.answer.Answer.{Answer};
 ghost use Rattle.bucket_model.specs.Answers.{brief_of, bytes_in, MayBeMade};
 ghost use Rattle.bucket_model.specs.Bucket.{ObjectVersion, IsSlice};
-ghost use Rattle.mount_model.specs.declared.handle.Handle.{Handle};
 ghost use Rattle.mount_model.specs.declared.request.Request.{Request};
 ghost use Rattle.mount_model.specs.declared.request.Request.TheVariants as request;
 ghost use Rattle.mount_model.specs.declared.request.Line.{Line};
@@ -22,14 +22,14 @@ ghost use Rattle.mount_model.specs.declared.standing.Heard.{Heard};
 ghost use Rattle.mount_model.specs.declared.standing.Phase.TheVariants.{Begun};
 ghost use Rattle.mount_model.specs.declared.standing.Standing.{Standing};
 ghost use Rattle.mount_model.specs.Heard.{nothing_heard, with_told, question_of, told_by};
-ghost use Rattle.mount_model.specs.Conversation.{Asks, next_of};
+ghost use Rattle.mount_model.specs.Conversation.{View, Asks, next_of};
 ghost use Rattle.mount_model.specs.Step.{Step};
 ghost use Rattle.mount_model.specs.State.{ClientState, Job, Gone, opening, after, state_after, line_at, job_at, next_at};
 ghost use Rattle.mount_model.specs.Reads.{IsReadReply, GivesOnly};
 ghost use Rattle.mount_model.specs.Run.{AreRising, IsLegalStep, IsRunSoFar, IsRun, IsQuiet, startable};
 ghost use Rattle.run_laws.specs.Alive.{IsAlive};
 ghost use Rattle.run_laws.specs.Calls.{jobs_of};
-ghost use Rattle.run_laws.specs.Faithful.{IsFaithful};
+ghost use Rattle.run_laws.specs.Faithful.{IsRead, IsFaithful};
 ghost use Rattle.run_laws.specs.Order.{IsInOrder};
 ghost use Rattle.run_laws.specs.Once.{begins_in, replies_in, replied_in, for_phase};
 ghost use Rattle.run_laws.specs.Served.{IsOwned, HasJob};
@@ -37,17 +37,17 @@ ghost use Rattle.run_laws.specs.Work.{calls_left, work_left};
 
 /// What holds before the first step holds after each one.
 pub fn each_state_is_alive()
-    ensures { (script : List Line) (steps : List Step) → AreRising 0 script → IsRunSoFar script steps → IsAlive (state_after script steps) }
+    ensures { (options : Opts) (script : List Line) (steps : List Step) → AreRising 0 script → IsRunSoFar options script steps → IsAlive (state_after options script steps) }
 {}
 
 /// A step changes how far lines have come, and not the lines.
 pub fn lines_stay()
-    ensures { (script : List Line) (steps : List Step) → map (λ s. s.line) (state_after script steps).lines ≡ script }
+    ensures { (options : Opts) (script : List Line) (steps : List Step) → map (λ s. s.line) (state_after options script steps).lines ≡ script }
 {}
 
 /// Where no line may begin and no job is ready or out, each line has its reply: none waits for ever.
 pub fn no_reply_is_lost()
-    ensures { (script : List Line) (steps : List Step) → AreRising 0 script → IsRunSoFar script steps → startable (state_after script steps).lines ≡ [] → AllByRecursion (λ job. job.phase ≡ Gone) (state_after script steps).jobs → IsQuiet (state_after script steps) }
+    ensures { (options : Opts) (script : List Line) (steps : List Step) → AreRising 0 script → IsRunSoFar options script steps → startable (state_after options script steps).lines ≡ [] → AllByRecursion (λ job. job.phase ≡ Gone) (state_after options script steps).jobs → IsQuiet (state_after options script steps) }
 {}
 
 /// Jobs that are ready or out, and lines that have begun and are no awaits, belong together one to one.
@@ -57,62 +57,79 @@ pub fn each_job_has_its_line()
     ensures at_work { (state : ClientState) (number : ℕ) (standing : Standing) (heard : Heard) → IsAlive state → line_at number state.lines ≡ Some standing → standing.phase ≡ Begun heard → standing.line.request ≢ request.Await → HasJob state number }
 {}
 
-/// A job that is ready or out makes the call that its line does next: neither what its line has heard nor the
-/// handles of its line's process change until its own answer comes.
-pub fn each_job_makes_its_call()
+/// Where a line reads, its job makes the call that the line does next, from when it is asked for until its answer comes:
+/// neither what the line has heard nor the handles of its process change before.
+pub fn each_read_makes_its_call()
+    ensures { (options : Opts) (script : List Line) (steps : List Step) (number : ℕ) (job : Job) (standing : Standing) → AreRising 0 script → IsRunSoFar options script steps → job_at number (state_after options script steps).jobs ≡ Some job → job.phase ≢ Gone → line_at job.line (state_after options script steps).lines ≡ Some standing → IsRead standing.line.request → next_at (state_after options script steps).shared job.line (state_after options script steps).lines ≡ Asks job.call }
+{}
+
+/// Whatever the answer to a job is, it leaves the job's line fewer calls. The line might by then ask something else:
+/// another process may have made or removed a directory while the question was out.
+pub fn each_answer_leaves_fewer_calls()
+    ensures { (options : Opts) (script : List Line) (steps : List Step) (number : ℕ) (job : Job) (standing : Standing) (heard : Heard) (answer : Brief) → AreRising 0 script → IsRunSoFar options script steps → job_at number (state_after options script steps).jobs ≡ Some job → job.phase ≢ Gone → line_at job.line (state_after options script steps).lines ≡ Some standing → standing.phase ≡ Begun heard → calls_left standing.line.request (with_told (told_by (question_of job.call) answer) heard) < calls_left standing.line.request heard }
+{}
+
+/// Each step keeps these two laws, and so they hold after each run.
+pub fn each_job_is_faithful()
     ensures step { (state : ClientState) (step : Step) → IsAlive state → IsFaithful state → IsLegalStep state step → IsFaithful (after state step) }
-    ensures run { (script : List Line) (steps : List Step) → AreRising 0 script → IsRunSoFar script steps → IsFaithful (state_after script steps) }
-    ensures job { (script : List Line) (steps : List Step) (number : ℕ) (job : Job) → AreRising 0 script → IsRunSoFar script steps → job_at number (state_after script steps).jobs ≡ Some job → job.phase ≢ Gone → next_at (state_after script steps).handles job.line (state_after script steps).lines ≡ Asks job.call }
+    ensures run { (options : Opts) (script : List Line) (steps : List Step) → AreRising 0 script → IsRunSoFar options script steps → IsFaithful (state_after options script steps) }
 {}
 
 /// No job asks for an empty range. This holds of all jobs so far, those that are gone too.
 pub fn calls_may_be_made()
-    ensures asked { (handle : Option Handle) (request : Request) (heard : Heard) (called : Call) → next_of handle request heard ≡ Asks called → MayBeMade called }
-    ensures run { (script : List Line) (steps : List Step) (number : ℕ) (job : Job) → AreRising 0 script → IsRunSoFar script steps → job_at number (state_after script steps).jobs ≡ Some job → MayBeMade job.call }
+    ensures asked { (view : View) (request : Request) (heard : Heard) (called : Call) → next_of view request heard ≡ Asks called → MayBeMade called }
+    ensures run { (options : Opts) (script : List Line) (steps : List Step) (number : ℕ) (job : Job) → AreRising 0 script → IsRunSoFar options script steps → job_at number (state_after options script steps).jobs ≡ Some job → MayBeMade job.call }
 {}
 
 /// A read gives bytes of the version that its handle opened: where an answer's bytes are those of the version and
 /// the range that its call asks for, and a step gives no others, its replies are such reads. A line that begins has
 /// no answer yet, and gives no bytes.
 pub fn reads_are_slices()
-    ensures done { (versions : List ObjectVersion) (script : List Line) (steps : List Step) (step : Step) (number position : ℕ) (said : Answer) (job : Job) → AreRising 0 script → IsRunSoFar script steps → IsLegalStep (state_after script steps) step → step.event ≡ Done number position (brief_of said) → job_at number (state_after script steps).jobs ≡ Some job → IsSlice versions job.call said → AllByRecursion (GivesOnly (bytes_in said)) step.replies → AllByRecursion (IsReadReply versions (state_after script steps)) step.replies }
-    ensures begun { (versions : List ObjectVersion) (script : List Line) (steps : List Step) (step : Step) (line time : ℕ) → AreRising 0 script → IsRunSoFar script steps → IsLegalStep (state_after script steps) step → step.event ≡ Begin line time → AllByRecursion (GivesOnly []) step.replies → AllByRecursion (IsReadReply versions (state_after script steps)) step.replies }
-    ensures taken { (versions : List ObjectVersion) (script : List Line) (steps : List Step) (step : Step) (number time from : ℕ) → AreRising 0 script → IsRunSoFar script steps → IsLegalStep (state_after script steps) step → step.event ≡ Take number time from → AllByRecursion (IsReadReply versions (state_after script steps)) step.replies }
+    ensures done { (versions : List ObjectVersion) (options : Opts) (script : List Line) (steps : List Step) (step : Step) (number position : ℕ) (said : Answer) (job : Job) → AreRising 0 script → IsRunSoFar options script steps → IsLegalStep (state_after options script steps) step → step.event ≡ Done number position (brief_of said) → job_at number (state_after options script steps).jobs ≡ Some job → IsSlice versions job.call said → AllByRecursion (GivesOnly (bytes_in said)) step.replies → AllByRecursion (IsReadReply versions (state_after options script steps)) step.replies }
+    ensures begun { (versions : List ObjectVersion) (options : Opts) (script : List Line) (steps : List Step) (step : Step) (line time : ℕ) → AreRising 0 script → IsRunSoFar options script steps → IsLegalStep (state_after options script steps) step → step.event ≡ Begin line time → AllByRecursion (GivesOnly []) step.replies → AllByRecursion (IsReadReply versions (state_after options script steps)) step.replies }
+    ensures taken { (versions : List ObjectVersion) (options : Opts) (script : List Line) (steps : List Step) (step : Step) (number time from : ℕ) → AreRising 0 script → IsRunSoFar options script steps → IsLegalStep (state_after options script steps) step → step.event ≡ Take number time from → AllByRecursion (IsReadReply versions (state_after options script steps)) step.replies }
 {}
 
 /// The asks and the replies of a step are in the order in which its text has them.
 pub fn each_step_is_in_order()
-    ensures { (script : List Line) (steps : List Step) → AreRising 0 script → IsRunSoFar script steps → AllByRecursion IsInOrder steps }
+    ensures { (options : Opts) (script : List Line) (steps : List Step) → AreRising 0 script → IsRunSoFar options script steps → AllByRecursion IsInOrder steps }
 {}
 
 /// A line begins at most once and gets at most one reply, in the step in which it begins or a later one:
 /// each front of a run is a run so far. In a whole run each line gets its one reply.
 pub fn each_line_is_answered_once()
-    ensures begun { (script : List Line) (steps : List Step) (number : ℕ) → AreRising 0 script → IsRunSoFar script steps → begins_in number steps ≤ 1 }
-    ensures behind { (script : List Line) (steps : List Step) (number : ℕ) → AreRising 0 script → IsRunSoFar script steps → replies_in number steps ≤ begins_in number steps }
-    ensures phase { (script : List Line) (steps : List Step) (number : ℕ) → AreRising 0 script → IsRunSoFar script steps → replies_in number steps ≡ for_phase replied_in (line_at number (state_after script steps).lines) }
-    ensures each { (script : List Line) (steps : List Step) → AreRising 0 script → IsRun script steps → AllByRecursion (λ line. replies_in line.number steps ≡ 1) script }
+    ensures begun { (options : Opts) (script : List Line) (steps : List Step) (number : ℕ) → AreRising 0 script → IsRunSoFar options script steps → begins_in number steps ≤ 1 }
+    ensures behind { (options : Opts) (script : List Line) (steps : List Step) (number : ℕ) → AreRising 0 script → IsRunSoFar options script steps → replies_in number steps ≤ begins_in number steps }
+    ensures phase { (options : Opts) (script : List Line) (steps : List Step) (number : ℕ) → AreRising 0 script → IsRunSoFar options script steps → replies_in number steps ≡ for_phase replied_in (line_at number (state_after options script steps).lines) }
+    ensures each { (options : Opts) (script : List Line) (steps : List Step) → AreRising 0 script → IsRun options script steps → AllByRecursion (λ line. replies_in line.number steps ≡ 1) script }
 {}
 
-/// Each step leaves less to do where jobs make the calls that their lines do next, so that a run has no more steps
-/// than the work in its script.
+/// Each step leaves less to do where each answer leaves fewer calls, so that a run has no more steps than the work in
+/// its script.
 pub fn each_run_ends()
     ensures step { (state : ClientState) (step : Step) → IsAlive state → IsFaithful state → IsLegalStep state step → work_left (after state step) < work_left state }
-    ensures run { (script : List Line) (steps : List Step) → AreRising 0 script → IsRunSoFar script steps → length steps + work_left (state_after script steps) ≤ work_left (opening script) }
+    ensures run { (options : Opts) (script : List Line) (steps : List Step) → AreRising 0 script → IsRunSoFar options script steps → length steps + work_left (state_after options script steps) ≤ work_left (opening options script) }
 {}
 
-/// A line asks for at most so many jobs as its request has calls: a put, a delete and a read have 1, a stat
-/// and an open at most 2 for each name of the path, and a close and an await none.
+/// A line asks for at most so many jobs as its request has calls: a put, a delete and a read have 1, a stat, an open and
+/// the making and the removal of a directory at most 2 for each name of the path, an unlink 1 more, and a close and an
+/// await none. A faulty path needs none either.
 pub fn calls_are_few()
-    ensures run { (script : List Line) (steps : List Step) → AreRising 0 script → IsRunSoFar script steps → AllByRecursion (λ line. jobs_of line.number (state_after script steps).jobs ≤ calls_left line.request nothing_heard) script }
-    ensures falls { (handle : Option Handle) (request : Request) (heard : Heard) (called : Call) (answer : Brief) → next_of handle request heard ≡ Asks called → calls_left request (with_told (told_by (question_of called) answer) heard) < calls_left request heard }
+    ensures run { (options : Opts) (script : List Line) (steps : List Step) → AreRising 0 script → IsRunSoFar options script steps → AllByRecursion (λ line. jobs_of line.number (state_after options script steps).jobs ≤ calls_left line.request nothing_heard) script }
+    ensures falls { (view : View) (request : Request) (heard : Heard) (called : Call) (answer : Brief) → next_of view request heard ≡ Asks called → calls_left request (with_told (told_by (question_of called) answer) heard) < calls_left request heard }
     ensures put { (key : List ℕ) (content : Data) → calls_left (request.Put key content) nothing_heard ≡ 1 }
     ensures stat { (path : List ℕ) (names : List (List ℕ)) → path_of path ≡ Ok names → calls_left (request.Stat path) nothing_heard ≤ 2 * length names }
     ensures open { (name : ℕ) (path : List ℕ) (names : List (List ℕ)) → path_of path ≡ Ok names → calls_left (request.OpenRead name path) nothing_heard ≤ 2 * length names }
+    ensures make { (path : List ℕ) (names : List (List ℕ)) → path_of path ≡ Ok names → calls_left (request.MakeDir path) nothing_heard ≤ 2 * length names }
+    ensures remove { (path : List ℕ) (names : List (List ℕ)) → path_of path ≡ Ok names → calls_left (request.RemoveDir path) nothing_heard ≤ 2 * length names }
+    ensures unlink { (path : List ℕ) (names : List (List ℕ)) → path_of path ≡ Ok names → calls_left (request.Unlink path) nothing_heard ≤ 2 * length names + 1 }
     ensures read { (name offset count : ℕ) → calls_left (request.Read name offset count) nothing_heard ≡ 1 }
     ensures delete { (key : List ℕ) → calls_left (request.Delete key) nothing_heard ≡ 1 }
     ensures faulty { (path : List ℕ) (why : PathFault) → path_of path ≡ Err why → calls_left (request.Stat path) nothing_heard ≡ 0 }
     ensures faulty_open { (name : ℕ) (path : List ℕ) (why : PathFault) → path_of path ≡ Err why → calls_left (request.OpenRead name path) nothing_heard ≡ 0 }
+    ensures faulty_make { (path : List ℕ) (why : PathFault) → path_of path ≡ Err why → calls_left (request.MakeDir path) nothing_heard ≡ 0 }
+    ensures faulty_remove { (path : List ℕ) (why : PathFault) → path_of path ≡ Err why → calls_left (request.RemoveDir path) nothing_heard ≡ 0 }
+    ensures faulty_unlink { (path : List ℕ) (why : PathFault) → path_of path ≡ Err why → calls_left (request.Unlink path) nothing_heard ≡ 0 }
     ensures closes { (name : ℕ) → calls_left (request.Close name) nothing_heard ≡ 0 }
     ensures waits { calls_left request.Await nothing_heard ≡ 0 }
 {}

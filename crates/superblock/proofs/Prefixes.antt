@@ -9,10 +9,12 @@ use Rattle.std.proofs.lemmas.List.Sums.{passes_at_first, prefix_len-le-length}
 use Rattle.mp_types.specs.Path.{slash, is_slash, names_in, are_names}
 use Rattle.mp_rules.specs.declared.facts.Fact.{Fact}
 use Rattle.mp_rules.specs.declared.facts.Question.{Question}
-use Rattle.mp_rules.specs.Walk.{below, entry_at, walk, stands_at}
+use Rattle.mp_rules.specs.declared.entry.Local.{Local}
+use Rattle.mp_rules.specs.Walk.{below, entry_at, walk}
 use Rattle.superblock.specs.declared.decision.Decision.{Decision as Code}
 use Rattle.superblock.specs.Decided.{Decides}
 use Rattle.superblock.specs.Prefix.{IsStop, name_length, names_behind}
+use Rattle.superblock.specs.Walked.{walk_of}
 
 split_step : (b : Bool) (x n : ℕ) (xs : List ℕ) → slice_split is_slash xs ≡ take n xs ∷ names_behind (drop n xs) → cond b ([] ∷ slice_split is_slash xs) (onto_first x (slice_split is_slash xs)) ≡ take (cond (not b) (1 + n) 0) (x ∷ xs) ∷ names_behind (drop (cond (not b) (1 + n) 0) (x ∷ xs))
 split_step true x n xs h = refl
@@ -59,26 +61,26 @@ one_more path end n more at =
     sym (split ∙ (ap (λ (xs : List ℕ). xs ++ take n (drop (end + 1) path)) (front ∙ ap (λ (byte : ℕ). take end path ++ byte ∷ []) at) ∙ append_assoc (take end path) (slash ∷ []) (take n (drop (end + 1) path))))
 
 -- the walk begins where the first name ends
-pub begins : (facts : Question → Option Fact) (path : List ℕ) (end : ℕ) → 0 < length path → end ≡ 0 + name_length path → stands_at facts (names_in path) ≡ walk facts (take end path) (names_behind (drop end path))
-begins facts path end some is =
+pub begins : (facts : Question → Option Fact) (locally : List ℕ → Local) (path : List ℕ) (end : ℕ) → 0 < length path → end ≡ 0 + name_length path → walk_of facts locally (names_in path) ≡ walk facts locally (take end path) (names_behind (drop end path))
+begins facts locally path end some is =
     let same : name_length path ≡ end = omega (arith, is) in
-    ap (stands_at facts) (first_of path some) ∙ ap (λ (k : ℕ). walk facts (take k path) (names_behind (drop k path))) same
+    ap (walk_of facts locally) (first_of path some) ∙ ap (λ (k : ℕ). walk facts locally (take k path) (names_behind (drop k path))) same
 
 -- from a proper prefix the walk goes on to where the next name ends, if a directory stands there
-pub goes_on : (facts : Question → Option Fact) (path : List ℕ) (end next : ℕ) → IsStop path end → end < length path → next ≡ end + 1 + name_length (drop (end + 1) path)
-    → walk facts (take end path) (names_behind (drop end path)) ≡ below (entry_at facts (take end path)) (walk facts (take next path) (names_behind (drop next path)))
-goes_on facts path end next stop more is =
+pub goes_on : (facts : Question → Option Fact) (locally : List ℕ → Local) (path : List ℕ) (end next : ℕ) → IsStop path end → end < length path → next ≡ end + 1 + name_length (drop (end + 1) path)
+    → walk facts locally (take end path) (names_behind (drop end path)) ≡ below (entry_at facts locally (take end path)) (walk facts locally (take next path) (names_behind (drop next path)))
+goes_on facts locally path end next stop more is =
     let rest = drop (end + 1) path in
     let n = name_length rest in
-    let found = entry_at facts (take end path) in
+    let found = entry_at facts locally (take end path) in
     let names : names_behind (drop end path) ≡ take n rest ∷ names_behind (drop n rest) = ap names_behind (drop_more path end 0 more) ∙ split_first rest in
-    ap (λ (names : List (List ℕ)). walk facts (take end path) names) names
-    ∙ (ap (λ (key : List ℕ). below found (walk facts key (names_behind (drop n rest)))) (one_more path end n more (stop.at more))
-    ∙ (ap (λ (text : List ℕ). below found (walk facts (take (end + 1 + n) path) (names_behind text))) (drop-drop n (end + 1) path)
-    ∙ ap (λ (k : ℕ). below found (walk facts (take k path) (names_behind (drop k path)))) (sym is)))
+    ap (λ (names : List (List ℕ)). walk facts locally (take end path) names) names
+    ∙ (ap (λ (key : List ℕ). below found (walk facts locally key (names_behind (drop n rest)))) (one_more path end n more (stop.at more))
+    ∙ (ap (λ (text : List ℕ). below found (walk facts locally (take (end + 1 + n) path) (names_behind text))) (drop-drop n (end + 1) path)
+    ∙ ap (λ (k : ℕ). below found (walk facts locally (take k path) (names_behind (drop k path)))) (sym is)))
 
 -- the key of a prefix is cut out of the path's text
-pub at_prefix : (facts : Question → Option Fact) (path : List ℕ) (end : ℕ) (found : Code) (key : List ℕ) → key ≡ slice_range path 0 end → Decides found (entry_at facts key) → Decides found (entry_at facts (take end path))
-at_prefix facts path end found key is decides =
+pub at_prefix : (facts : Question → Option Fact) (locally : List ℕ → Local) (path : List ℕ) (end : ℕ) (found : Code) (key : List ℕ) → key ≡ slice_range path 0 end → Decides found (entry_at facts locally key) → Decides found (entry_at facts locally (take end path))
+at_prefix facts locally path end found key is decides =
     let same : end - 0 ≡ end = omega arith in
-    subst (λ (k : List ℕ). Decides found (entry_at facts k)) (is ∙ ap (λ (n : ℕ). take n path) same) decides
+    subst (λ (k : List ℕ). Decides found (entry_at facts locally k)) (is ∙ ap (λ (n : ℕ). take n path) same) decides

@@ -1,15 +1,16 @@
 -- What hides what, by what the bucket answered.
 use Rattle.std.specs.Prelude.{ℕ, Bool, true, false, Option, Some, None}
 use Rattle.mp_rules.specs.declared.entry.Entry.{Entry}
-use Rattle.mp_rules.specs.declared.entry.Entry.TheVariants.{Directory, File, Nothing}
+use Rattle.mp_rules.specs.declared.entry.Entry.TheVariants.{RemoteDir, LocalDir, File, Nothing}
 use Rattle.mp_rules.specs.declared.entry.Kind.{Kind}
 use Rattle.mp_rules.specs.declared.entry.Kind.TheVariants as kind
 use Rattle.mp_rules.specs.declared.facts.Fact.{Fact}
 use Rattle.mp_rules.specs.declared.facts.Fact.TheVariants.{Found, Yes}
 
--- of which kind an entry is that the bucket tells
+-- of which kind an entry is
 abbrev pub kind_in : Entry → Kind
-kind_in Directory = kind.RemoteDir
+kind_in RemoteDir = kind.RemoteDir
+kind_in LocalDir = kind.LocalDir
 kind_in (File etag size) = kind.RemoteFile
 kind_in Nothing = kind.Nothing
 

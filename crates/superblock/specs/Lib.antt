@@ -2,3 +2,4 @@ pub mod Asked
 pub mod Decided
 pub mod Hiding
 pub mod Prefix
+pub mod Walked

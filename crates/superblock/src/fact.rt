@@ -1,5 +1,5 @@
-ghost use Rattle.std.specs.Prelude.{◌≡◌, option_copied, option_to_list};
-ghost use Rattle.std.specs.List.{find};
+ghost use Rattle.std.specs.Prelude.{◌≡◌, ◌<◌, None, length, drop, slice_get, option_copied, option_to_list, MatchOption};
+ghost use Rattle.std.specs.List.{find, position};
 ghost use Rattle.mp_rules.specs.Walk.{AreDistinct, fact_in, is_question, with_last};
 ghost use Rattle.superblock.specs.Asked.{question_of};
 
@@ -22,21 +22,36 @@ fn is_asked(asked: Asked<'_>, question: &Question) -> bool
     }
 }
 
-fn known_anywhere<'a>(asked: Asked<'_>, own: &'a [Known]) -> Option<&'a Known>
-    ensures { option_copied result ≡ find (λ known. is_question (question_of asked.entry) known.question) own.now }
+fn place_in(asked: Asked<'_>, own: &[Known]) -> Option<usize>
+    ensures { result ≡ position (λ known. is_question (question_of asked.entry) known.question) own.now }
 {
-    own.iter().find(|known| is_asked(asked, &known.question))
+    own.iter()
+        .position(|known| is_asked(asked, &known.question))
 }
 
-// The own fact of a question. It mostly stands at the walk's own place, so that is looked at first.
-fn known_among<'a>(asked: Asked<'_>, own: &'a [Known], place: usize) -> Option<&'a Known>
+// The place of a question's own fact, where it stands at this one or behind it.
+fn place_from(asked: Asked<'_>, own: &[Known], start: usize) -> Option<usize>
+    requires { AreDistinct own.now }
+    ensures { MatchOption result
+        (find (λ known. is_question (question_of asked.entry) known.question) (drop start own.now) ≡ None)
+        (λ place. (place < length own.now) × (find (λ known. is_question (question_of asked.entry) known.question) own.now ≡ slice_get own.now place)) }
+{
+    let behind = place_in(asked, own.get(start..)?)?;
+    Some(start + behind)
+}
+
+// The own fact of a question. A walk mostly meets its facts in their order, so those behind the last one found come
+// first.
+fn known_among<'a>(asked: Asked<'_>, own: &'a [Known], next: &mut usize) -> Option<&'a Known>
     requires { AreDistinct own.now }
     ensures { option_copied result ≡ find (λ known. is_question (question_of asked.entry) known.question) own.now }
 {
-    match own.get(place) {
-        Some(known) if is_asked(asked, &known.question) => Some(known),
-        _ => known_anywhere(asked, own),
-    }
+    let place = match place_from(asked, own, *next) {
+        Some(place) => place,
+        None => place_from(asked, own, 0)?,
+    };
+    *next = place + 1;
+    own.get(place)
 }
 
 fn known_last<'a>(asked: Asked<'_>, last: Option<&'a Known>) -> Option<&'a Known>
@@ -48,16 +63,17 @@ fn known_last<'a>(asked: Asked<'_>, last: Option<&'a Known>) -> Option<&'a Known
     }
 }
 
-// The answer to a question, where it is among the own ones, at this place if anywhere first, or is the last one.
+// The answer to a question, where it is among the own ones or is the last one. `next` is the place behind the last own
+// one found, and only makes the look-up fast.
 pub fn fact_of<'a>(
     asked: Asked<'_>,
     own: &'a [Known],
     last: Option<&'a Known>,
-    place: usize,
+    next: &mut usize,
 ) -> Option<&'a Fact>
     requires { AreDistinct own.now }
     ensures { option_copied result ≡ fact_in (with_last (option_copied last.entry) own.now) (question_of asked.entry) }
 {
-    let known = known_among(asked, own, place).or(known_last(asked, last))?;
+    let known = known_among(asked, own, next).or(known_last(asked, last))?;
     Some(&known.fact)
 }

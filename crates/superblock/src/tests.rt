@@ -1,8 +1,16 @@
 use super::*;
+use local_names::Locals;
 use mp_rules::{Entry, Fact, Known, OwnFacts, Question};
 use mp_types::{ETag, Errno, Key};
 use std::alloc::Global;
 use std::test::*;
+
+// The mount's own names: one directory that was made.
+fn made(alloc: Global, key: &str) -> Result<Locals, Fail> {
+    let mut names = Locals::new(alloc);
+    names.add_dir(&Key::parse(alloc, key)?)?;
+    Ok(names)
+}
 
 fn probed(alloc: Global, key: &str, fact: Fact) -> Result<Known, Fail> {
     Ok(Known {
@@ -33,8 +41,12 @@ fn asks_head(decision: Decision, key: &str) -> bool {
     matches!(decision, Decision::Head(asked) if asked == key)
 }
 
-fn is_directory(decision: Decision) -> bool {
-    matches!(decision, Decision::Is(Entry::Directory))
+fn is_remote(decision: Decision) -> bool {
+    matches!(decision, Decision::Is(Entry::RemoteDir))
+}
+
+fn is_local(decision: Decision) -> bool {
+    matches!(decision, Decision::Is(Entry::LocalDir))
 }
 
 fn is_nothing(decision: Decision) -> bool {
@@ -50,70 +62,106 @@ fn refuses(decision: Decision, errno: Errno) -> bool {
 }
 
 #[test]
-fn the_root_needs_no_question(rt: HostRuntime) -> Result<(), Fail> {
-    assert!(rt; is_directory(decide("", &OwnFacts::new(rt.alloc()), None)));
-    Ok(())
-}
-
-#[test]
 fn one_name_is_asked_about_twice(rt: HostRuntime) -> Result<(), Fail> {
+    let names = Locals::new(rt.alloc());
     let mut own = OwnFacts::new(rt.alloc());
     let yes = probed(rt.alloc(), "a", Fact::Yes)?;
-    assert!(rt; asks_probe(decide("a", &own, None), "a"));
-    assert!(rt; is_directory(decide("a", &own, Some(&yes))));
+    assert!(rt; asks_probe(decide("a", &names, &own, None), "a"));
+    assert!(rt; is_remote(decide("a", &names, &own, Some(&yes))));
     own.add(probed(rt.alloc(), "a", Fact::No)?)?;
     let file = headed(rt.alloc(), "a", found(5)?)?;
     let missing = headed(rt.alloc(), "a", Fact::Missing)?;
-    assert!(rt; asks_head(decide("a", &own, None), "a"));
-    assert!(rt; is_file(decide("a", &own, Some(&file)), 5));
-    assert!(rt; is_nothing(decide("a", &own, Some(&missing))));
+    assert!(rt; asks_head(decide("a", &names, &own, None), "a"));
+    assert!(rt; is_file(decide("a", &names, &own, Some(&file)), 5));
+    assert!(rt; is_nothing(decide("a", &names, &own, Some(&missing))));
     Ok(())
 }
 
 #[test]
 fn each_prefix_has_to_be_a_directory(rt: HostRuntime) -> Result<(), Fail> {
+    let names = Locals::new(rt.alloc());
     let mut own = OwnFacts::new(rt.alloc());
     let yes = probed(rt.alloc(), "a", Fact::Yes)?;
-    assert!(rt; asks_probe(decide("a/b", &own, None), "a"));
-    assert!(rt; asks_probe(decide("a/b", &own, Some(&yes)), "a/b"));
+    assert!(rt; asks_probe(decide("a/b", &names, &own, None), "a"));
+    assert!(rt; asks_probe(decide("a/b", &names, &own, Some(&yes)), "a/b"));
     own.add(probed(rt.alloc(), "a", Fact::No)?)?;
     let file = headed(rt.alloc(), "a", found(5)?)?;
     let missing = headed(rt.alloc(), "a", Fact::Missing)?;
-    assert!(rt; asks_head(decide("a/b", &own, None), "a"));
-    assert!(rt; refuses(decide("a/b", &own, Some(&file)), Errno::Enotdir));
-    assert!(rt; refuses(decide("a/b", &own, Some(&missing)), Errno::Enoent));
+    assert!(rt; asks_head(decide("a/b", &names, &own, None), "a"));
+    assert!(rt; refuses(decide("a/b", &names, &own, Some(&file)), Errno::Enotdir));
+    assert!(rt; refuses(decide("a/b", &names, &own, Some(&missing)), Errno::Enoent));
     Ok(())
 }
 
 #[test]
 fn a_directory_hides_a_file(rt: HostRuntime) -> Result<(), Fail> {
+    let names = Locals::new(rt.alloc());
     let mut own = OwnFacts::new(rt.alloc());
     own.add(headed(rt.alloc(), "a", found(5)?)?)?;
     own.add(probed(rt.alloc(), "a", Fact::Yes)?)?;
-    assert!(rt; is_directory(decide("a", &own, None)));
-    assert!(rt; asks_probe(decide("a/b", &own, None), "a/b"));
+    assert!(rt; is_remote(decide("a", &names, &own, None)));
+    assert!(rt; asks_probe(decide("a/b", &names, &own, None), "a/b"));
     Ok(())
 }
 
 #[test]
 fn the_last_fact_may_stand_among_the_others(rt: HostRuntime) -> Result<(), Fail> {
+    let names = Locals::new(rt.alloc());
     let mut own = OwnFacts::new(rt.alloc());
     own.add(probed(rt.alloc(), "a", Fact::Yes)?)?;
     own.add(probed(rt.alloc(), "a/b", Fact::No)?)?;
     let file = headed(rt.alloc(), "a/b", found(5)?)?;
-    assert!(rt; is_file(decide("a/b", &own, Some(&file)), 5));
+    assert!(rt; is_file(decide("a/b", &names, &own, Some(&file)), 5));
     own.add(file)?;
-    assert!(rt; is_file(decide("a/b", &own, None), 5));
+    assert!(rt; is_file(decide("a/b", &names, &own, None), 5));
     Ok(())
 }
 
 #[test]
 fn facts_of_other_questions_count_for_nothing(rt: HostRuntime) -> Result<(), Fail> {
+    let names = Locals::new(rt.alloc());
     let mut own = OwnFacts::new(rt.alloc());
     own.add(probed(rt.alloc(), "b", Fact::Yes)?)?;
     own.add(headed(rt.alloc(), "a", Fact::Missing)?)?;
     let no = probed(rt.alloc(), "a", Fact::No)?;
-    assert!(rt; asks_probe(decide("a", &own, None), "a"));
-    assert!(rt; is_nothing(decide("a", &own, Some(&no))));
+    assert!(rt; asks_probe(decide("a", &names, &own, None), "a"));
+    assert!(rt; is_nothing(decide("a", &names, &own, Some(&no))));
+    Ok(())
+}
+
+#[test]
+fn a_local_directory_hides_a_file(rt: HostRuntime) -> Result<(), Fail> {
+    let names = made(rt.alloc(), "a/b")?;
+    let mut own = OwnFacts::new(rt.alloc());
+    assert!(rt; asks_probe(decide("a", &names, &own, None), "a"));
+    own.add(probed(rt.alloc(), "a", Fact::No)?)?;
+    own.add(headed(rt.alloc(), "a", found(5)?)?)?;
+    assert!(rt; is_local(decide("a", &names, &own, None)));
+    assert!(rt; asks_probe(decide("a/b", &names, &own, None), "a/b"));
+    own.add(probed(rt.alloc(), "a/b", Fact::No)?)?;
+    assert!(rt; is_local(decide("a/b", &names, &own, None)));
+    assert!(rt; asks_probe(decide("a/b/c", &names, &own, None), "a/b/c"));
+    let no = probed(rt.alloc(), "a/b/c", Fact::No)?;
+    assert!(rt; asks_head(decide("a/b/c", &names, &own, Some(&no)), "a/b/c"));
+    Ok(())
+}
+
+#[test]
+fn a_remote_directory_hides_a_local_one(rt: HostRuntime) -> Result<(), Fail> {
+    let names = made(rt.alloc(), "a")?;
+    let own = OwnFacts::new(rt.alloc());
+    let yes = probed(rt.alloc(), "a", Fact::Yes)?;
+    assert!(rt; is_remote(decide("a", &names, &own, Some(&yes))));
+    Ok(())
+}
+
+#[test]
+fn facts_may_stand_in_any_order(rt: HostRuntime) -> Result<(), Fail> {
+    let names = Locals::new(rt.alloc());
+    let mut own = OwnFacts::new(rt.alloc());
+    own.add(headed(rt.alloc(), "a/b", found(5)?)?)?;
+    own.add(probed(rt.alloc(), "a/b", Fact::No)?)?;
+    own.add(probed(rt.alloc(), "a", Fact::Yes)?)?;
+    assert!(rt; is_file(decide("a/b", &names, &own, None), 5));
     Ok(())
 }

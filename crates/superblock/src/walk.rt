@@ -1,23 +1,26 @@
 ghost use Rattle.std.specs.Prelude.{◌≡◌, ◌<◌, ◌≤◌, true, length, option_copied};
 ghost use Rattle.mp_types.specs.Path.{are_names, names_in};
 ghost use Rattle.mp_rules.specs.declared.facts.Question.TheVariants as question;
-ghost use Rattle.mp_rules.specs.Walk.{AreDistinct, by_head, entry_at, fact_in, stands_at, with_last};
+ghost use Rattle.mp_rules.specs.Local.{local_at};
+ghost use Rattle.mp_rules.specs.Walk.{AreDistinct, by_head, by_local, entry_at, fact_in, with_last};
 ghost use Rattle.superblock.specs.Decided.{Decides, StopsAt};
+ghost use Rattle.superblock.specs.Walked.{walk_of};
 
 use crate::Decision;
 use crate::fact::{Asked, fact_of};
 use crate::prefix::name_end;
-use mp_rules::{Entry, Fact, Known, OwnFacts};
+use local_names::Locals;
+use mp_rules::{Entry, Fact, Known, Local, OwnFacts};
 use mp_types::Errno;
 
-// What stands at a key with no key below it.
-fn file_at<'a>(key: &'a str, own: &[Known], last: Option<&Known>, place: usize) -> Decision<'a>
+// What stands at a key where the bucket has no key below it and nothing is local.
+fn file_at<'a>(key: &'a str, own: &[Known], last: Option<&Known>, next: &mut usize) -> Decision<'a>
     requires distinct { AreDistinct own.now }
     requires some { 0 < length key.now }
     requires short { length key.now ≤ 1024 }
     ensures { Decides result (by_head key.now (fact_in (with_last (option_copied last.entry) own.now) (question.Head key.now))) }
 {
-    match fact_of(Asked::Head(key), own, last, place) {
+    match fact_of(Asked::Head(key), own, last, next) {
         None => Decision::Head(key),
         Some(Fact::Found { etag, size }) => Decision::Is(Entry::File {
             etag: etag.copy(),
@@ -27,17 +30,42 @@ fn file_at<'a>(key: &'a str, own: &[Known], last: Option<&Known>, place: usize) 
     }
 }
 
-// What stands at a key.
-fn entry_at<'a>(key: &'a str, own: &[Known], last: Option<&Known>, place: usize) -> Decision<'a>
+// What stands at a key where the bucket has no key below it.
+fn local_or_file_at<'a>(
+    key: &'a str,
+    names: &Locals,
+    own: &[Known],
+    last: Option<&Known>,
+    next: &mut usize,
+) -> Decision<'a>
     requires distinct { AreDistinct own.now }
     requires some { 0 < length key.now }
     requires short { length key.now ≤ 1024 }
-    ensures { Decides result (entry_at (fact_in (with_last (option_copied last.entry) own.now)) key.now) }
+    ensures { Decides result (by_local key.now (local_at names.now key.now) (fact_in (with_last (option_copied last.entry) own.now) (question.Head key.now))) }
 {
-    match fact_of(Asked::Probe(key), own, last, place) {
+    match names.at(key) {
+        Local::Dir => Decision::Is(Entry::LocalDir),
+        Local::None | Local::File => file_at(key, own, last, next),
+    }
+}
+
+// What stands at a key.
+fn entry_at<'a>(
+    key: &'a str,
+    names: &Locals,
+    own: &[Known],
+    last: Option<&Known>,
+    next: &mut usize,
+) -> Decision<'a>
+    requires distinct { AreDistinct own.now }
+    requires some { 0 < length key.now }
+    requires short { length key.now ≤ 1024 }
+    ensures { Decides result (entry_at (fact_in (with_last (option_copied last.entry) own.now)) (local_at names.now) key.now) }
+{
+    match fact_of(Asked::Probe(key), own, last, next) {
         None => Decision::Probe(key),
-        Some(Fact::Yes) => Decision::Is(Entry::Directory),
-        Some(_) => file_at(key, own, last, place.wrapping_add(1)),
+        Some(Fact::Yes) => Decision::Is(Entry::RemoteDir),
+        Some(_) => local_or_file_at(key, names, own, last, next),
     }
 }
 
@@ -46,43 +74,43 @@ fn stop_above(found: Decision<'_>) -> Option<Decision<'_>>
     ensures { StopsAt found.entry result }
 {
     match found {
-        Decision::Is(Entry::Directory) => None,
+        Decision::Is(Entry::RemoteDir) | Decision::Is(Entry::LocalDir) => None,
         Decision::Is(Entry::File { .. }) => Some(Decision::Refused(Errno::Enotdir)),
         Decision::Is(Entry::Nothing) => Some(Decision::Refused(Errno::Enoent)),
         open => Some(open),
     }
 }
 
-// The walk over a path with at least one name. Where each prefix was found to be a directory, its fact stands at the
-// prefix's own place among those of the line; the places only make the look-ups fast.
-fn walk<'a>(path: &'a str, own: &[Known], last: Option<&Known>) -> Decision<'a>
+fn walk<'a>(path: &'a str, names: &Locals, own: &[Known], last: Option<&Known>) -> Decision<'a>
     requires distinct { AreDistinct own.now }
     requires names { are_names (names_in path.now) ≡ true }
     requires some { 0 < length path.now }
     requires short { length path.now ≤ 1024 }
-    ensures { Decides result (stands_at (fact_in (with_last (option_copied last.entry) own.now)) (names_in path.now)) }
+    ensures { Decides result (walk_of (fact_in (with_last (option_copied last.entry) own.now)) (local_at names.now) (names_in path.now)) }
 {
     let mut end = name_end(path, 0);
-    let mut place = 0usize;
+    let mut next = 0usize;
     while end < path.len() {
-        if let Some(stop) = stop_above(entry_at(&path[..end], own, last, place)) {
+        if let Some(stop) = stop_above(entry_at(&path[..end], names, own, last, &mut next)) {
             return stop;
         }
         end = name_end(path, end + 1);
-        place = place.wrapping_add(1);
     }
-    entry_at(path, own, last, place)
+    entry_at(path, names, own, last, &mut next)
 }
 
 /// What stands at a path, or what has to be asked first, from the left. The path is given by what stands behind its
-/// first `/`: nothing is the root. The last fact may stand apart from the line's own ones.
-pub fn decide<'a>(path: &'a str, own: &OwnFacts, last: Option<&Known>) -> Decision<'a>
+/// first `/`. It isn't the root, which needs no walk. The last fact may stand apart from the line's own ones.
+pub fn decide<'a>(
+    path: &'a str,
+    names: &Locals,
+    own: &OwnFacts,
+    last: Option<&Known>,
+) -> Decision<'a>
     requires names { are_names (names_in path.now) ≡ true }
     requires short { length path.now ≤ 1024 }
-    ensures { Decides result (stands_at (fact_in (with_last (option_copied last.entry) own.now)) (names_in path.now)) }
+    requires some { 0 < length path.now }
+    ensures { Decides result (walk_of (fact_in (with_last (option_copied last.entry) own.now)) (local_at names.now) (names_in path.now)) }
 {
-    if path.is_empty() {
-        return Decision::Is(Entry::Directory);
-    }
-    walk(path, own.as_slice(), last)
+    walk(path, names, own.as_slice(), last)
 }

@@ -1,4 +1,5 @@
-use Rattle.run_laws.proofs.Conversation.{calls_left_fall, stat_calls, open_calls, faulty_calls, faulty_open_calls}
+use Rattle.mp_types.specs.Path.{path_of}
+use Rattle.run_laws.proofs.Conversation.{calls_left_fall, path_calls, walk_calls, faulty_calls}
 use Rattle.run_laws.proofs.Calls.{calls_bound}
 use Rattle.run_laws.proofs.calls_are_few.Goals as goal
 
@@ -9,13 +10,31 @@ pub returns-clause-falls : goal.returns-clause-falls
 returns-clause-falls c = calls_left_fall
 
 pub returns-clause-stat : goal.returns-clause-stat
-returns-clause-stat c = stat_calls
+returns-clause-stat c = λ path names. walk_calls (path_of path) names
 
 pub returns-clause-open : goal.returns-clause-open
-returns-clause-open c = open_calls
+returns-clause-open c = λ name path names. walk_calls (path_of path) names
+
+pub returns-clause-make : goal.returns-clause-make
+returns-clause-make c = λ path names. walk_calls (path_of path) names
+
+pub returns-clause-remove : goal.returns-clause-remove
+returns-clause-remove c = λ path names. walk_calls (path_of path) names
+
+pub returns-clause-unlink : goal.returns-clause-unlink
+returns-clause-unlink c = λ path names. path_calls 1 (path_of path) names
 
 pub returns-clause-faulty : goal.returns-clause-faulty
-returns-clause-faulty c = faulty_calls
+returns-clause-faulty c = λ path why. faulty_calls 0 (path_of path) why
 
 pub returns-clause-faulty_open : goal.returns-clause-faulty_open
-returns-clause-faulty_open c = faulty_open_calls
+returns-clause-faulty_open c = λ name path why. faulty_calls 0 (path_of path) why
+
+pub returns-clause-faulty_make : goal.returns-clause-faulty_make
+returns-clause-faulty_make c = λ path why. faulty_calls 0 (path_of path) why
+
+pub returns-clause-faulty_remove : goal.returns-clause-faulty_remove
+returns-clause-faulty_remove c = λ path why. faulty_calls 0 (path_of path) why
+
+pub returns-clause-faulty_unlink : goal.returns-clause-faulty_unlink
+returns-clause-faulty_unlink c = λ path why. faulty_calls 1 (path_of path) why

@@ -1,10 +1,14 @@
-use Rattle.std.proofs.Common.{option_copied, sym, subst, ◌∙◌}
-use Rattle.mp_types.specs.Path.{path_of}
-use Rattle.mount_plan.specs.Meant.{Means, with_last}
-use Rattle.mount_plan.proofs.Looks.{opens}
+use Rattle.std.proofs.Common.{option_copied, sym, ◌∙◌}
+use Rattle.mp_types.specs.declared.errno.Errno.TheVariants.{Eisdir}
+use Rattle.mount_model.specs.Conversation.{fails, open_at}
+use Rattle.mount_plan.specs.Meant.{with_last}
+use Rattle.mount_plan.specs.Seen.{view_of}
+use Rattle.mount_plan.proofs.Looks.{goes_by, not_live}
 use Rattle.mount_plan.proofs.open.open_plan.Goals as goal
 
-pub returns-in-Ok-look_up : goal.returns-in-Ok-look_up
-returns-in-Ok-look_up c =
-    let same = opens c.args.live (path_of c.args.path.now) c.in-Ok.below.now (with_last (option_copied c.args.last) c.args.heard.now) c.in-Ok-look_up.entry (sym c.is_some.ensures ∙ c.if-is_some.false) c.in-Ok.ensures.0 c.in-Ok-look_up.ensures in
-    subst (Means c.entry_plan.result) (sym same) c.entry_plan.ensures
+pub returns-in-Ok-Entry : goal.returns-in-Ok-Entry
+returns-in-Ok-Entry c =
+    let view = view_of c.args.view.now in
+    let heard = with_last (option_copied c.args.last) c.args.heard.now in
+    let free = not_live c.args.view.now.handle (sym c.is_some.ensures ∙ c.if-is_some.false) in
+    rw (c.in-Ok.ensures.0, free) (goes_by c.entry_plan.result view (fails Eisdir) (open_at view.live) c.in-Ok.below.now heard c.in-Ok-Entry.field-0 c.in-Ok-Entry.entry c.in-Ok-Entry.field-0-is c.in-Ok-Entry.ensures c.entry_plan.ensures)

@@ -17,6 +17,7 @@ loop-held-init g c =
     let start = at-start (g.S.Store.history c.args.store.now) (g.S.Store.position c.args.store.now) (g.S.Store.is_alone c.args.store.now) c.args.core c.requires (λ history is. g.met.S.Store.position_is c.args.store.now history is) in
     let few = few-none (g.S.Store.faults c.args.store.now) (g.S.Store.faults c.args.store.now) c.args.core (few-start (g.S.Store.faults c.args.store.now) c.args.core c.requires) in
     record {
+      options = refl;
       script = refl;
       by_job = rw c.new-held.ensures.items tt;
       between = rw c.new-held.ensures.items start;
@@ -36,6 +37,7 @@ loop-held-preserved-then-choice-answers g c =
     let got = c.let_go-got.result in
     let was = c.loop-held.invariant in
     record {
+      options = c.done.ensures.options ∙ was.options;
       script = c.done.ensures.script ∙ was.script;
       by_job = c.let_go-got.ensures.by_job;
       between = at-done (g.S.Store.history c.loop-held.store) (g.S.Store.position c.loop-held.store) (g.S.Store.position c.args.store.now) (g.S.Store.is_alone c.args.store.now) got c.let_go-got.new.held.items c.loop-held.held.items c.loop-held.core c.done.new.self c.done.ensures c.let_go-got.ensures.with was.between;
@@ -61,6 +63,7 @@ loop-held-preserved-in-Some g c =
     let called = c.call_for-got.ensures.called in
     let with : IsWith got c.loop-held.held.items c.hold.new.held.items = rw c.reserve.ensures.items at c.hold.ensures.with in
     record {
+      options = called.take.options ∙ was.options;
       script = called.take.script ∙ was.script;
       by_job = c.hold.ensures.by_job;
       between = at-called (g.S.Store.history c.loop-held.store) (g.S.Store.history c.call_for-got.new.store) c.in-Some.job (g.S.Store.position c.loop-held.store) (g.S.Store.position c.call_for-got.new.store) (g.S.Store.position c.args.store.now) (g.S.Store.faults c.loop-held.store) (g.S.Store.faults c.call_for-got.new.store) (g.S.Store.is_alone c.args.store.now) (g.S.Store.is_alone c.loop-held.store) got c.loop-held.held.items c.hold.new.held.items c.loop-held.core c.call_for-got.new.core called was.alone with was.between;
@@ -80,6 +83,7 @@ pub loop-held-preserved : goal.loop-held-preserved
 loop-held-preserved g c =
     let was = c.loop-held.invariant in
     record {
+      options = c.begin.ensures.options ∙ was.options;
       script = c.begin.ensures.script ∙ was.script;
       by_job = was.by_job;
       between = at-begun (g.S.Store.history c.loop-held.store) (g.S.Store.position c.loop-held.store) (g.S.Store.position c.args.store.now) (g.S.Store.is_alone c.args.store.now) c.loop-held.held.items c.in-Some-startable_at.line _ c.loop-held.core c.begin.new.self c.begin.ensures was.between;
@@ -102,7 +106,7 @@ returns-in_default-startable_at-clause-driven g c =
     (rw c.ready_len-ready.ensures (past-none jobs (choice - held) c.in_default.ensures))
     (rw c.startable_len-startable.ensures.value (past-none lines (choice - held - waiting) c.in_default-startable_at.ensures.value)) in
     let empty : c.loop-held.held.items ≡ [] = nothing-is c.loop-held.held.items (omega (arith, none.0, c.len-answers.ensures, c.loop-held.held.ok.0)) in
-    at-end (g.S.Store.history c.loop-held.store) (g.S.Store.position c.loop-held.store) (g.S.Store.position c.args.store.now) (g.S.Store.is_alone c.args.store.now) (g.S.Store.faults c.args.store.now) (g.S.Store.faults c.loop-held.store) c.args.core.script core was.script c.startable_at.ensures.rising
+    at-end (g.S.Store.history c.loop-held.store) (g.S.Store.position c.loop-held.store) (g.S.Store.position c.args.store.now) (g.S.Store.is_alone c.args.store.now) (g.S.Store.faults c.args.store.now) (g.S.Store.faults c.loop-held.store) c.args.core.options c.args.core.script core was.options was.script c.startable_at.ensures.rising
     (nothing-is jobs (sym c.ready_len-ready.ensures ∙ none.1))
     (nothing-is lines (sym c.startable_len-startable.ensures.value ∙ none.2))
     (few-all (g.S.Store.faults c.args.store.now) (g.S.Store.faults c.loop-held.store) core (subst (λ (held : List HeldAnswer). HasRisenBy (faults_in core.steps + faults_among held) (g.S.Store.faults c.args.store.now) (g.S.Store.faults c.loop-held.store)) empty was.faults))

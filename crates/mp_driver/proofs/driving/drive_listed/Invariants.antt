@@ -8,6 +8,7 @@ use Rattle.mp_driver.proofs.driving.drive_listed.Given as goal
 
 abbrev pub invariant-loop-held : goal.invariant-loop-held
 invariant-loop-held g l = record {
+  options : l.core.options ≡ l.fn.core.options;
   script : l.core.script ≡ l.fn.core.script;
   by_job : AreByJob l.held.items;
   between : IsAtTurn (g.S.Store.history l.store) (g.S.Store.position l.store) (g.S.Store.position l.fn.store) (g.S.Store.is_alone l.fn.store) l.held.items l.core;

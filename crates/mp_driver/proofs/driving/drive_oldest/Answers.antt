@@ -11,6 +11,7 @@ use Rattle.mp_driver.proofs.driving.drive_oldest.Goals as goal
 
 pub loop-job-init : goal.loop-job-init
 loop-job-init g c = record {
+  options = refl;
   script = refl;
   between = at-start (g.S.Store.history c.args.store.now) (g.S.Store.position c.args.store.now) (g.S.Store.is_alone c.args.store.now) c.args.core c.requires (λ history is. g.met.S.Store.position_is c.args.store.now history is);
   faults = few-start (g.S.Store.faults c.args.store.now) c.args.core c.requires;
@@ -37,6 +38,7 @@ loop-job-preserved-in-Some g c =
     let called = c.call_for-got.ensures.called in
     let between = at-called (g.S.Store.history c.loop-job.store) (g.S.Store.history c.call_for-got.new.store) c.in-Some.job (g.S.Store.position c.loop-job.store) (g.S.Store.position c.call_for-got.new.store) (g.S.Store.position c.args.store.now) (g.S.Store.faults c.loop-job.store) (g.S.Store.faults c.call_for-got.new.store) (g.S.Store.is_alone c.args.store.now) (g.S.Store.is_alone c.loop-job.store) got [] (got ∷ []) c.loop-job.core c.call_for-got.new.core called was.alone (with-one got) was.between in
     record {
+      options = c.done.ensures.options ∙ (called.take.options ∙ was.options);
       script = c.done.ensures.script ∙ (called.take.script ∙ was.script);
       between = at-done (g.S.Store.history c.call_for-got.new.store) (g.S.Store.position c.call_for-got.new.store) (g.S.Store.position c.args.store.now) (g.S.Store.is_alone c.args.store.now) got [] (got ∷ []) c.call_for-got.new.core c.done.new.self c.done.ensures (with-one got) between;
       faults =
@@ -56,6 +58,7 @@ pub loop-job-preserved : goal.loop-job-preserved
 loop-job-preserved g c =
     let was = c.loop-job.invariant in
     record {
+      options = c.begin.ensures.options ∙ was.options;
       script = c.begin.ensures.script ∙ was.script;
       between = at-begun (g.S.Store.history c.loop-job.store) (g.S.Store.position c.loop-job.store) (g.S.Store.position c.args.store.now) (g.S.Store.is_alone c.args.store.now) [] c.in-Some-startable_at.line _ c.loop-job.core c.begin.new.self c.begin.ensures was.between;
       faults =
@@ -73,7 +76,7 @@ returns-in_default-startable_at-clause-driven g c =
     let core = c.loop-job.core in
     let jobs : List ℕ = ready (state_of core).jobs in
     let lines : List ℕ = startable (state_of core).lines in
-    at-end (g.S.Store.history c.loop-job.store) (g.S.Store.position c.loop-job.store) (g.S.Store.position c.args.store.now) (g.S.Store.is_alone c.args.store.now) (g.S.Store.faults c.args.store.now) (g.S.Store.faults c.loop-job.store) c.args.core.script core was.script c.startable_at.ensures.rising
+    at-end (g.S.Store.history c.loop-job.store) (g.S.Store.position c.loop-job.store) (g.S.Store.position c.args.store.now) (g.S.Store.is_alone c.args.store.now) (g.S.Store.faults c.args.store.now) (g.S.Store.faults c.loop-job.store) c.args.core.options c.args.core.script core was.options was.script c.startable_at.ensures.rising
     (none_first jobs c.in_default.ensures)
     (none_first lines c.in_default-startable_at.ensures.value)
     was.faults was.between

@@ -7,6 +7,7 @@ use Rattle.mp_driver.proofs.driving.drive_oldest.Given as goal
 
 abbrev pub invariant-loop-job : goal.invariant-loop-job
 invariant-loop-job g l = record {
+  options : l.core.options ≡ l.fn.core.options;
   script : l.core.script ≡ l.fn.core.script;
   between : IsAtTurn (g.S.Store.history l.store) (g.S.Store.position l.store) (g.S.Store.position l.fn.store) (g.S.Store.is_alone l.fn.store) [] l.core;
   faults : HasFewFaults (g.S.Store.faults l.fn.store) (g.S.Store.faults l.store) l.core.steps;

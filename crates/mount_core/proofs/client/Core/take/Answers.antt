@@ -13,7 +13,7 @@ invariant_of-self c =
     let e = c.take_job.ensures in
     let may = subst (λ (w : CoreState). is_among c.args.job (ready (state_of w).jobs) ≡ true) (sym c.self.view_is) c.requires.ready in
     let behind = subst (λ (w : CoreState). AllByRecursion (λ position. position < c.args.from) (state_of w).positions) (sym c.self.view_is) c.requires.behind in
-    (take_leaves c.self.inside.work c.take_job.new.self c.args.job c.args.time c.args.from c.self.invariant may behind e.time e.steps e.lines e.count e.held e.handles).stands
+    (take_leaves c.self.inside.work c.take_job.new.self c.args.job c.args.time c.args.from c.self.invariant may behind e.time e.steps e.lines e.count e.held e.shared).stands
 
 pub returns-clause-call : goal.returns-clause-call
 returns-clause-call c =
@@ -25,7 +25,7 @@ returns-clause-step c =
     let e = c.take_job.ensures in
     let may = subst (λ (w : CoreState). is_among c.args.job (ready (state_of w).jobs) ≡ true) (sym c.self.view_is) c.requires.ready in
     let behind = subst (λ (w : CoreState). AllByRecursion (λ position. position < c.args.from) (state_of w).positions) (sym c.self.view_is) c.requires.behind in
-    rw (← c.self.view_is) ((take_leaves c.self.inside.work c.take_job.new.self c.args.job c.args.time c.args.from c.self.invariant may behind e.time e.steps e.lines e.count e.held e.handles).advances)
+    rw (← c.self.view_is) ((take_leaves c.self.inside.work c.take_job.new.self c.args.job c.args.time c.args.from c.self.invariant may behind e.time e.steps e.lines e.count e.held e.shared).advances)
 
 pub returns-clause-may : goal.returns-clause-may
 returns-clause-may c =

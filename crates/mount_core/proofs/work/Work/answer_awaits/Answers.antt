@@ -21,5 +21,5 @@ loop-line-preserved c =
         more_replied so_far.1.0 (due_awaits c.loop-line.self.lines) _ (due_awaits c.reply_line.new.self.lines) (due_awaits c.args.self.now.lines) (record { line = c.in-Some.line; reply = Success }) so_far.1.1 c.in-Some.ensures.0 (ap due_awaits c.reply_line.ensures.answers.lines),
         answers_more so_far.1.0 one c.args.self.now c.loop-line.self c.reply_line.new.self c.requires so_far.1.2 c.reply_line.ensures.answers,
       ),
-      c.reply_line.ensures.handles ∙ so_far.2,
+      c.reply_line.ensures.shared ∙ so_far.2,
     )

@@ -11,6 +11,7 @@ invariant_of-self-2 c =
       counted = rw (c.in-Ok.ensures.ok, owes_jobs-push) (omega (arith, c.keep_answer.new.self.counted));
       enough = omega (arith, room, c.in_ok-make_room.ensures.room, c.in-Some.ensures, c.keep_answer.ensures.owed_stays, c.ask-2.ensures.room);
       knows = rw c.ask-2.ensures.known c.keep_answer.new.self.knows;
+      no_files = c.keep_answer.new.self.no_files;
       rising = c.keep_answer.new.self.rising;
     }
 

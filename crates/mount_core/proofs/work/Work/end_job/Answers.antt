@@ -15,5 +15,6 @@ invariant_of-self c =
       counted = rw c.done-asker.ensures.held (omega arith);
       enough = omega arith;
       knows = rw c.event.ensures.known c.args.self.now.knows;
+      no_files = c.args.self.now.no_files;
       rising = c.args.self.now.rising;
     }

@@ -1,84 +1,98 @@
-use Rattle.std.proofs.Common.{refl, sym, subst, ap, ◌∙◌, ◌+◌, inl, inr}
+use Rattle.std.proofs.Common.{◌+◌, refl, subst, ap, ◌∙◌, inl, inr}
 use Rattle.mount_model.specs.declared.request.Reply.TheVariants as reply
 use Rattle.mp_types.specs.declared.errno.Errno.TheVariants.{Enomem}
-use Rattle.mount_model.specs.Run.{owner_at}
-use Rattle.mount_model.specs.State.{change_line, next_at}
-use Rattle.mount_core.specs.Journal.{Journaled}
-use Rattle.mount_core.specs.Turn.{heard_last, MayGoOn}
-use Rattle.mount_core.specs.Handles.{Keeps}
-use Rattle.mount_core.proofs.Turns.{goes_asking, goes_replying, goes_waiting, goes_told, lacks_turn, asks_lack, says_turn, opens_turn, data_turn, effect_failed, effect_data, effect_reply, effect_open, open_free, open_gives, reply_gives, keeps_by}
+use Rattle.mount_model.specs.State.{Shared, change_line}
+use Rattle.mount_model.specs.Conversation.{Replies, Makes, Removes, Opens, Gives}
+use Rattle.mount_core.specs.Turn.{MayGoOn, next_behind, owner_behind}
+use Rattle.mount_core.proofs.Turns.{goes_asking, goes_replying, goes_ending, goes_waiting, lacks_turn, asks_lack, reply_gives, may_open, makes_new, removes_dir}
 use Rattle.mount_core.proofs.work.Work.go_on.Goals as goal
 
 pub returns-in-Ok : goal.returns-in-Ok
-returns-in-Ok c = λ handles keeps.
-    let w = c.args.self.now in
-    let due = subst (λ d. MayGoOn c.args.line d c.args.last c.args.bytes handles w.lines) c.in-Call.is (c.requires.turn handles keeps) in
-    goes_asking c.args.line c.in-Call.owner c.args.last c.in-Call.call c.args.bytes handles w c.ask_call.new.self c.requires.begun due.means.0 due.means.1 c.in-Ok.ensures.ok (keeps_by _ _ handles handles c.ask_call.ensures.handles refl keeps)
+returns-in-Ok c =
+    let due = subst (λ d. MayGoOn c.args.line d c.args.last c.args.bytes c.args.self.now) c.in-Call.is c.requires.turn in
+    goes_asking c.args.line c.in-Call.owner c.args.last c.in-Call.call c.args.bytes c.args.self.now c.ask_call.new.self c.requires.begun due.means.0 due.means.1 c.in-Ok.ensures.ok c.ask_call.ensures.shared
 
 pub returns-in-Call : goal.returns-in-Call
-returns-in-Call c = λ handles keeps.
+returns-in-Call c =
     let w = c.args.self.now in
-    let lines = change_line c.args.line (heard_last c.args.last) w.lines in
-    let due = subst (λ d. MayGoOn c.args.line d c.args.last c.args.bytes handles w.lines) c.in-Call.is (c.requires.turn handles keeps) in
+    let due = subst (λ d. MayGoOn c.args.line d c.args.last c.args.bytes w) c.in-Call.is c.requires.turn in
+    let next = next_behind c.args.line c.args.last w in
     let kept = c.in-Err.ensures.err in
-    goes_replying c.args.line c.args.last c.args.bytes handles (reply.Failed Enomem) w c.ask_call.new.self c.reply_line.new.self kept.steps kept.lines kept.jobs kept.time
-    (lacks_turn (w.jobs.count + 1) c.args.line (owner_at handles c.args.line lines) (next_at handles c.args.line lines) (asks_lack (next_at handles c.args.line lines) c.in-Call.call due.means.0))
+    let same = c.reply_line.ensures.shared ∙ c.ask_call.ensures.shared in
+    goes_replying c.args.line c.args.last c.args.bytes (reply.Failed Enomem) next w c.ask_call.new.self c.reply_line.new.self c.requires.begun refl kept.steps kept.lines kept.jobs kept.time
     c.reply_line.ensures.answers
-    (keeps_by _ _ handles _ (c.reply_line.ensures.handles ∙ c.ask_call.ensures.handles) (sym (effect_failed handles lines c.args.line Enomem handles)) keeps)
-    tt
+    (lacks_turn (w.jobs.count + 1) c.args.line (owner_behind c.args.line c.args.last w) next (asks_lack next c.in-Call.call due.means.0))
+    (ap (λ (t : Shared). t.options) same) same tt
 
 pub returns-in-NoMemory : goal.returns-in-NoMemory
-returns-in-NoMemory c = λ handles keeps.
+returns-in-NoMemory c =
     let w = c.args.self.now in
-    let lines = change_line c.args.line (heard_last c.args.last) w.lines in
-    let due = subst (λ d. MayGoOn c.args.line d c.args.last c.args.bytes handles w.lines) c.in-NoMemory.is (c.requires.turn handles keeps) in
-    goes_told c.args.line c.args.last c.args.bytes handles (reply.Failed Enomem) w c.reply_line-in-NoMemory.new.self
-    (lacks_turn (w.jobs.count + 1) c.args.line (owner_at handles c.args.line lines) (next_at handles c.args.line lines) due.means)
+    let due = subst (λ d. MayGoOn c.args.line d c.args.last c.args.bytes w) c.in-NoMemory.is c.requires.turn in
+    let next = next_behind c.args.line c.args.last w in
+    let same = c.reply_line-in-NoMemory.ensures.shared in
+    goes_replying c.args.line c.args.last c.args.bytes (reply.Failed Enomem) next w w c.reply_line-in-NoMemory.new.self c.requires.begun refl refl refl refl refl
     c.reply_line-in-NoMemory.ensures.answers
-    (keeps_by _ _ handles _ c.reply_line-in-NoMemory.ensures.handles (sym (effect_failed handles lines c.args.line Enomem handles)) keeps)
-    tt
+    (lacks_turn (w.jobs.count + 1) c.args.line (owner_behind c.args.line c.args.last w) next due.means)
+    (ap (λ (t : Shared). t.options) same) same tt
 
 pub returns-in-Reply : goal.returns-in-Reply
-returns-in-Reply c = λ handles keeps.
+returns-in-Reply c =
     let w = c.args.self.now in
-    let lines = change_line c.args.line (heard_last c.args.last) w.lines in
     let told = c.in-Reply.reply in
-    let due = subst (λ d. MayGoOn c.args.line d c.args.last c.args.bytes handles w.lines) c.in-Reply.is (c.requires.turn handles keeps) in
-    let g = c.give_up.ensures in
-    goes_replying c.args.line c.args.last c.args.bytes handles told w c.give_up.new.self c.reply_line-in-Reply.new.self
-    (ap (λ (j : Journaled). j.steps) g.record_stays) (ap (change_line c.args.line _) g.lines_stay) g.jobs_stay g.time_stays
-    (says_turn (w.jobs.count + 1) c.args.line (owner_at handles c.args.line lines) (next_at handles c.args.line lines) told due.means)
+    let due = subst (λ d. MayGoOn c.args.line d c.args.last c.args.bytes w) c.in-Reply.is c.requires.turn in
+    let alone = c.give_up.ensures.alone in
+    let begun = c.requires.begun in
+    let same = c.reply_line-in-Reply.ensures.shared in
+    goes_replying c.args.line c.args.last c.args.bytes told (Replies told) w c.give_up.new.self c.reply_line-in-Reply.new.self begun due.means alone.steps (ap (change_line c.args.line _) alone.lines) alone.jobs alone.time
     c.reply_line-in-Reply.ensures.answers
-    (keeps_by _ _ _ _ c.reply_line-in-Reply.ensures.handles (sym (effect_reply c.args.line c.args.last handles w.lines told c.requires.begun due.means)) (g.handles handles keeps))
-    (reply_gives c.args.bytes c.args.line c.args.last handles w.lines told c.requires.begun due.means)
+    (refl, refl)
+    (ap (λ (t : Shared). t.options) same ∙ alone.options)
+    (same ∙ c.give_up.ensures.shared begun.standing begun.stands)
+    (reply_gives c.args.bytes c.args.line c.args.last w told begun due.means)
+
+pub make_dir-requires-clause-new : goal.make_dir-requires-clause-new
+make_dir-requires-clause-new c =
+    let due = subst (λ d. MayGoOn c.args.line d c.args.last c.args.bytes c.args.self.now) c.in-MakeDir.is c.requires.turn in
+    makes_new c.args.line c.args.last c.args.self.now c.in-MakeDir.key c.requires.begun due.means c.args.self.now.no_files
+
+pub returns-in-MakeDir : goal.returns-in-MakeDir
+returns-in-MakeDir c =
+    let due = subst (λ d. MayGoOn c.args.line d c.args.last c.args.bytes c.args.self.now) c.in-MakeDir.is c.requires.turn in
+    goes_ending c.args.line c.args.last c.args.bytes (Makes c.in-MakeDir.key) c.args.self.now c.make_dir.new.self c.requires.begun due.means c.make_dir.ensures
+
+pub remove_dir-requires-clause-removes : goal.remove_dir-requires-clause-removes
+remove_dir-requires-clause-removes c =
+    let due = subst (λ d. MayGoOn c.args.line d c.args.last c.args.bytes c.args.self.now) c.in-RemoveDir.is c.requires.turn in
+    (due.means.0, removes_dir c.args.line c.args.last c.args.self.now due.means.0 c.requires.begun due.means.1)
+
+pub returns-in-RemoveDir : goal.returns-in-RemoveDir
+returns-in-RemoveDir c =
+    let due = subst (λ d. MayGoOn c.args.line d c.args.last c.args.bytes c.args.self.now) c.in-RemoveDir.is c.requires.turn in
+    goes_ending c.args.line c.args.last c.args.bytes (Removes due.means.0) c.args.self.now c.remove_dir.new.self c.requires.begun due.means.1 (c.remove_dir.ensures due.means.0 (removes_dir c.args.line c.args.last c.args.self.now due.means.0 c.requires.begun due.means.1))
+
+pub open-requires-clause-may : goal.open-requires-clause-may
+open-requires-clause-may c =
+    let due = subst (λ d. MayGoOn c.args.line d c.args.last c.args.bytes c.args.self.now) c.in-Open.is c.requires.turn in
+    may_open c.args.line c.args.last c.args.self.now c.in-Open.version c.requires.begun due.means
 
 pub returns-in-Open : goal.returns-in-Open
-returns-in-Open c = λ handles keeps.
-    let w = c.args.self.now in
-    let lines = change_line c.args.line (heard_last c.args.last) w.lines in
-    let version = c.in-Open.version in
-    let due = subst (λ d. MayGoOn c.args.line d c.args.last c.args.bytes handles w.lines) c.in-Open.is (c.requires.turn handles keeps) in
-    let opens = c.open.ensures in
-    let begun = c.requires.begun in
-    goes_told c.args.line c.args.last c.args.bytes handles opens.said w c.open.new.self
-    (opens_turn (w.jobs.count + 1) c.args.line (owner_at handles c.args.line lines) (next_at handles c.args.line lines) version opens.said due.means opens.is)
-    opens.answers
-    (subst (Keeps c.open.new.self.handles) (sym (effect_open c.args.line c.args.last handles w.lines version opens.said begun due.means)) (opens.opened handles begun.standing keeps begun.stands (open_free c.args.line c.args.last handles w.lines version begun due.means)))
-    (open_gives c.args.bytes c.args.line version opens.said opens.is)
+returns-in-Open c =
+    let due = subst (λ d. MayGoOn c.args.line d c.args.last c.args.bytes c.args.self.now) c.in-Open.is c.requires.turn in
+    goes_ending c.args.line c.args.last c.args.bytes (Opens c.in-Open.version) c.args.self.now c.open.new.self c.requires.begun due.means c.open.ensures
 
 pub returns-in-Data : goal.returns-in-Data
-returns-in-Data c = λ handles keeps.
+returns-in-Data c =
     let w = c.args.self.now in
-    let lines = change_line c.args.line (heard_last c.args.last) w.lines in
-    let due = subst (λ d. MayGoOn c.args.line d c.args.last c.args.bytes handles w.lines) c.in-Data.is (c.requires.turn handles keeps) in
-    goes_told c.args.line c.args.last c.args.bytes handles (reply.Data c.args.bytes) w c.reply_line-in-Data.new.self
-    (data_turn (w.jobs.count + 1) c.args.line (owner_at handles c.args.line lines) (next_at handles c.args.line lines) due.means.0 c.args.bytes due.means.1 (due.gives due.means.0 due.means.1))
+    let due = subst (λ d. MayGoOn c.args.line d c.args.last c.args.bytes w) c.in-Data.is c.requires.turn in
+    let count = due.means.0 in
+    let same = c.reply_line-in-Data.ensures.shared in
+    goes_replying c.args.line c.args.last c.args.bytes (reply.Data c.args.bytes) (Gives count) w w c.reply_line-in-Data.new.self c.requires.begun due.means.1 refl refl refl refl
     c.reply_line-in-Data.ensures.answers
-    (keeps_by _ _ handles _ c.reply_line-in-Data.ensures.handles (sym (effect_data handles lines c.args.line c.args.bytes handles)) keeps)
-    refl
+    (c.args.bytes, due.gives count due.means.1, (refl, refl))
+    (ap (λ (t : Shared). t.options) same) same refl
 
 pub returns : goal.returns
-returns c = λ handles keeps.
+returns c =
     let w = c.args.self.now in
-    let due = subst (λ d. MayGoOn c.args.line d c.args.last c.args.bytes handles w.lines) c.in-Nothing.is (c.requires.turn handles keeps) in
-    goes_waiting c.args.line c.args.last c.args.bytes handles w c.requires.may (elim due.not_idle [ inl none ↦ none | inr idle ↦ absurd (idle due.means) ]) due.means keeps
+    let due = subst (λ d. MayGoOn c.args.line d c.args.last c.args.bytes w) c.in-Nothing.is c.requires.turn in
+    goes_waiting c.args.line c.args.last c.args.bytes w c.requires.may (elim due.not_idle [ inl none ↦ none | inr idle ↦ absurd (idle due.means) ]) due.means

@@ -12,6 +12,7 @@ invariant_of-self c =
       counted = rw (owed_heard c.args.line c.in-Some.told c.args.self.now.lines c.hear.new.self c.hear.result c.hear.ensures.ok c.hear.ensures.err) c.args.self.now.counted;
       enough = c.args.self.now.enough;
       knows = rw lines c.args.self.now.knows;
+      no_files = c.args.self.now.no_files;
       rising = rw lines c.args.self.now.rising;
     }
 

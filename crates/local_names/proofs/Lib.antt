@@ -1,0 +1,6 @@
+mod Counts
+mod GivenUp
+mod Loops
+mod Names
+mod Tables
+mod Under

@@ -1,0 +1,4 @@
+pub mod Under
+pub mod Nodes
+pub mod Names
+pub mod Kept

@@ -1,0 +1,17 @@
+-- Which keys lie above which, with the empty one treated as all others are.
+use Rattle.std.specs.Prelude.{◌≡◌, ◌<◌, ◌||◌, length, ℕ, Bool, List, [], ◌∷◌, ◌++◌, nat_eq, if◌then◌else◌}
+use Rattle.std.specs.List.{starts_with}
+use Rattle.std.specs.Str.{bytes_eq}
+use Rattle.mp_types.specs.Path.{slash}
+
+-- the key begins with the other one and a `/`: for one that is not empty, it is below it
+abbrev pub is_under : List ℕ → List ℕ → Bool
+is_under key above = starts_with nat_eq key (above ++ slash ∷ [])
+
+-- above the first key stand the second one, and what stands above that
+pub record IsParent (key above : List ℕ) : Type 0 where
+  pub shorter : length above < length key
+  pub over : (q : List ℕ) → is_under key q ≡ (bytes_eq above q || is_under above q)
+
+abbrev pub one : Bool → ℕ
+one b = if b then 1 else 0

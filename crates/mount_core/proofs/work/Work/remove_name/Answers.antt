@@ -1,0 +1,15 @@
+use Rattle.std.proofs.Common.{ap, ◌∙◌}
+use Rattle.mp_rules.specs.Local.{LocalNames, without_name}
+use Rattle.mount_model.specs.State.{Shared}
+use Rattle.mount_core.proofs.Kept.{files-removed}
+use Rattle.mount_core.proofs.Turns.{key_below}
+use Rattle.mount_core.proofs.work.Work.remove_name.Goals as goal
+
+pub invariant_of-self-clause-no_files : goal.invariant_of-self-clause-no_files
+invariant_of-self-clause-no_files c = files-removed c.in-Ok.key.now c.args.self.now.names c.remove.new.self c.remove.ensures.names c.args.self.now.no_files
+
+pub returns-clause-shared : goal.returns-clause-shared
+returns-clause-shared c = λ key s dir.
+    let w = c.args.self.now in
+    let is = key_below c.args.line w.lines c.in-Some.standing.now c.in-RemoveDir.path c.as_str.result.now c.in-Ok.key.now key c.in-Some.ensures.value c.in-RemoveDir.is c.as_str.ensures c.in-Ok.ensures dir in
+    ap (λ (names : LocalNames). let seen : Shared = record { options = w.options; handles = w.handles; names = names } in seen) (c.remove.ensures.names ∙ ap (λ k. without_name k w.names) is)

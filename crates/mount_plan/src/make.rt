@@ -1,0 +1,37 @@
+ghost use Rattle.std.specs.Prelude.{◌≡◌, ◌<◌, ◌≤◌, length, option_copied};
+ghost use Rattle.mp_types.specs.Path.{path_of};
+ghost use Rattle.mount_model.specs.Conversation.{make_at, make_next};
+ghost use Rattle.mount_plan.specs.Meant.{Means, with_last};
+ghost use Rattle.mount_plan.specs.Seen.{view_of};
+
+use crate::lookup::{Found, look_up, path_errno};
+use crate::planned::failed;
+use crate::{Plan, View};
+use mount_model::{Heard, Told};
+use mp_rules::Entry;
+use mp_types::{Errno, below_root};
+
+fn entry_plan(key: &str, entry: Entry) -> Plan<'_>
+    requires some { 0 < length key.now }
+    requires short { length key.now ≤ 1024 }
+    ensures { Means result (make_at key.now entry) }
+{
+    match entry {
+        Entry::Nothing => Plan::MakeDir(key),
+        Entry::RemoteDir | Entry::LocalDir | Entry::File { .. } => failed(Errno::Eexist),
+    }
+}
+
+pub fn make_plan<'a>(path: &'a str, view: &View<'_>, heard: &Heard, last: Option<&Told>) -> Plan<'a>
+    ensures { Means result (make_next (view_of view.now) (path_of path.now) (with_last (option_copied last.entry) heard.now)) }
+{
+    let below = match below_root(path) {
+        Ok(below) => below,
+        Err(why) => return failed(path_errno(why)),
+    };
+    match look_up(below, view, heard, last) {
+        Ok(Found::Root) => failed(Errno::Eexist),
+        Ok(Found::Entry(entry)) => entry_plan(below, entry),
+        Err(plan) => plan,
+    }
+}

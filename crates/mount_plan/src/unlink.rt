@@ -1,0 +1,57 @@
+ghost use Rattle.std.specs.Prelude.{◌≡◌, ◌<◌, ◌≤◌, length, option_copied};
+ghost use Rattle.mp_types.specs.Path.{path_of};
+ghost use Rattle.mount_model.specs.Conversation.{unlink_at, unlink_next};
+ghost use Rattle.mount_plan.specs.Gone.{is_gone};
+ghost use Rattle.mount_plan.specs.Meant.{Means, with_last};
+ghost use Rattle.mount_plan.specs.Seen.{view_of};
+
+use crate::answered::first_answer;
+use crate::lookup::{Found, look_up, path_errno};
+use crate::planned::failed;
+use crate::{Plan, View};
+use bucket_model::Brief;
+use mount_model::{Heard, Reply, Told};
+use mp_rules::Entry;
+use mp_types::{Errno, below_root};
+
+fn is_gone(answer: Option<&Brief>) -> bool
+    ensures { result ≡ is_gone (option_copied answer.entry) }
+{
+    matches!(answer, Some(Brief::Gone))
+}
+
+fn entry_plan(key: &str, may_delete: bool, entry: Entry) -> Plan<'_>
+    requires some { 0 < length key.now }
+    requires short { length key.now ≤ 1024 }
+    ensures { Means result (unlink_at may_delete key.now entry) }
+{
+    match entry {
+        Entry::RemoteDir | Entry::LocalDir => failed(Errno::Eisdir),
+        Entry::File { .. } if may_delete => Plan::Unlink(key),
+        Entry::File { .. } => failed(Errno::Eperm),
+        Entry::Nothing => failed(Errno::Enoent),
+    }
+}
+
+// Once the object is gone, the walk is not done again.
+pub fn unlink_plan<'a>(
+    path: &'a str,
+    view: &View<'_>,
+    heard: &Heard,
+    last: Option<&Told>,
+) -> Plan<'a>
+    ensures { Means result (unlink_next (view_of view.now) (path_of path.now) (with_last (option_copied last.entry) heard.now)) }
+{
+    let below = match below_root(path) {
+        Ok(below) => below,
+        Err(why) => return failed(path_errno(why)),
+    };
+    if is_gone(first_answer(heard, last)) {
+        return Plan::Reply(Reply::Success);
+    }
+    match look_up(below, view, heard, last) {
+        Ok(Found::Root) => failed(Errno::Eisdir),
+        Ok(Found::Entry(entry)) => entry_plan(below, view.options.allow_delete, entry),
+        Err(plan) => plan,
+    }
+}
