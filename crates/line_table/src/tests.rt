@@ -118,10 +118,10 @@ fn two_awaits_are_due_one_behind_the_other(rt: HostRuntime) -> Result<(), Fail> 
     Ok(())
 }
 
-// Nothing lies below `a`.
-fn no_directory(alloc: Global) -> Result<Told, Fail> {
+// Nothing lies below the key.
+fn no_directory(alloc: Global, key: &str) -> Result<Told, Fail> {
     Ok(Told::Fact(Known {
-        question: Question::Probe(Key::parse(alloc, "a")?),
+        question: Question::Probe(Key::parse(alloc, key)?),
         fact: Fact::No,
     }))
 }
@@ -134,9 +134,9 @@ fn only_a_line_that_has_begun_hears(rt: HostRuntime) -> Result<(), Fail> {
     lines.hear(5, Told::Answer(Brief::Gone))?;
     assert_eq!(rt; (heard(&lines, 2), heard(&lines, 5)), (None, None));
     begin(&mut lines, alloc, 2)?;
-    lines.hear(2, no_directory(alloc)?)?;
+    lines.hear(2, no_directory(alloc, "a")?)?;
     lines.hear(2, Told::Answer(Brief::Fault))?;
-    lines.hear(2, no_directory(alloc)?)?;
+    lines.hear(2, no_directory(alloc, "a/b")?)?;
     assert_eq!(rt; (heard(&lines, 2), heard(&lines, 3)), (Some((2, 1)), None));
     reply(&mut lines, 2)?;
     lines.hear(2, Told::Answer(Brief::Gone))?;
