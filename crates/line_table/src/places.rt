@@ -7,7 +7,7 @@ ghost use Rattle.line_table.specs.Table.{script_of, StandsAt, AreAbove, put_in, 
 use mount_model::{Phase, Request, Standing, Told};
 use std::alloc::AllocError;
 
-// The place of the line of this number.
+/// The place of the line of this number.
 pub fn place_of(lines: &[Standing], number: u32) -> Option<usize>
     requires { AreRising 0 (script_of lines.now) }
     ensures { MatchOption result (line_at number lines.now ≡ None) (λ i. StandsAt number lines.now i) }
@@ -18,7 +18,7 @@ pub fn place_of(lines: &[Standing], number: u32) -> Option<usize>
     }
 }
 
-// The place of a number among rising numbers, or the place where it would stand.
+/// The place of a number among rising numbers, or the place where it would stand.
 pub fn place_among(numbers: &[u32], number: u32) -> Result<usize, usize>
     requires { AreAbove 0 numbers.now }
     ensures { MatchResult result (λ i. slice_get numbers.now i ≡ Some number) (λ i. (i ≤ length numbers.now) × (is_among number numbers.now ≡ false) × (put_in number numbers.now ≡ insert numbers.now i number)) }
@@ -26,7 +26,7 @@ pub fn place_among(numbers: &[u32], number: u32) -> Result<usize, usize>
     numbers.binary_search(&number)
 }
 
-// Puts the number in at its place, for which there is room.
+/// Puts the number in at its place, for which there is room.
 pub fn put_number(numbers: &mut Vec<u32>, number: u32)
     requires rising { AreAbove 0 numbers.old.items }
     requires room { length (put_in number numbers.old.items) ≤ vec_capacity numbers.old }
@@ -42,7 +42,7 @@ pub fn put_number(numbers: &mut Vec<u32>, number: u32)
     }
 }
 
-// Puts the number in, if there is one.
+/// Puts the number in, if there is one.
 pub fn put_follower(numbers: &mut Vec<u32>, follower: Option<u32>)
     requires rising { AreAbove 0 numbers.old.items }
     requires room { length (with_follower follower numbers.old.items) ≤ vec_capacity numbers.old }
@@ -55,7 +55,7 @@ pub fn put_follower(numbers: &mut Vec<u32>, follower: Option<u32>)
     }
 }
 
-// The place of the first line without a reply, which isn't above this one.
+/// The place of the first line without a reply, which isn't above this one.
 pub fn open_from(lines: &[Standing], from: usize) -> usize
     requires { from ≤ open_place lines.now }
     ensures { result ≡ open_place lines.now }
@@ -70,7 +70,7 @@ pub fn open_from(lines: &[Standing], from: usize) -> usize
     place
 }
 
-// One more answer for the line.
+/// One more answer for the line.
 pub fn hear_one(standing: &mut Standing, told: Told) -> Result<(), AllocError>
     ensures line { standing.new.line ≡ standing.old.line }
     ensures ok { OnOk result (standing.new.phase ≡ heard told standing.old.phase) }
@@ -82,7 +82,7 @@ pub fn hear_one(standing: &mut Standing, told: Told) -> Result<(), AllocError>
     }
 }
 
-// The number of an await that has begun.
+/// The number of an await that has begun.
 pub fn awaited_number(standing: &Standing) -> Option<u32>
     ensures { result ≡ awaited standing.now }
 {

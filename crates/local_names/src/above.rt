@@ -1,7 +1,7 @@
 ghost use Rattle.std.specs.Prelude.{◌≡◌, ℕ, List, MatchOption, false};
 ghost use Rattle.local_names.specs.Under.{is_under, IsParent};
 
-// The key without its last `/` and what follows: above a key stand this one and those above it.
+/// The key without its last `/` and what follows: above a key stand this one and those above it.
 pub fn parent(key: &str) -> Option<&str>
     ensures { MatchOption result ((q : List ℕ) → is_under key.now q ≡ false) (λ above. IsParent key.now above.now) }
 {

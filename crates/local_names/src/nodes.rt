@@ -10,13 +10,14 @@ use mp_rules::Local;
 use std::alloc::{AllocError, Global};
 use std::collections::BTreeMap;
 
-// What is kept under a key, and how many names stand below it.
+/// What is kept under a key, and how many names stand below it.
 #[derive(Clone, Copy)]
 pub struct Node {
     pub kind: Local,
     pub below: usize,
 }
 
+/// The kept keys in order of their bytes.
 pub type Nodes = BTreeMap<String, Node>;
 
 impl Node {
@@ -30,12 +31,14 @@ impl Node {
         }
     }
 
+    /// Whether a name is kept here, a directory or a file.
     pub fn is_name(self) -> bool
         ensures { result ≡ not (is_none self.kind) }
     {
         !matches!(self.kind, Local::None)
     }
 
+    /// Whether the name kept here is a directory.
     pub fn is_dir(self) -> bool
         ensures { result ≡ is_dir self.kind }
     {
@@ -49,7 +52,7 @@ impl Node {
     }
 }
 
-// The node of a key, which may be kept or not where it is bare.
+/// The node of a key, which may be kept or not where it is bare.
 pub fn node_at(nodes: &Nodes, key: &str) -> Node
     ensures { result ≡ node_in nodes.now key.now }
 {
@@ -138,7 +141,7 @@ fn lower(nodes: &mut Nodes, key: &str)
     }
 }
 
-// Makes a key a name of a kind. An error changes nothing that is seen.
+/// Makes a key a name of a kind. An error changes nothing that is seen.
 pub fn add_name(nodes: &mut Nodes, alloc: Global, key: &str, kind: Local) -> Result<(), AllocError>
     requires kind { is_none kind ≡ false }
     requires room { (q : List ℕ) → count_in nodes.old q < 2 ^ 63 }
@@ -153,7 +156,7 @@ pub fn add_name(nodes: &mut Nodes, alloc: Global, key: &str, kind: Local) -> Res
     Ok(())
 }
 
-// Makes a name none.
+/// Makes a name none.
 pub fn remove_name(nodes: &mut Nodes, key: &str)
     requires named { is_none (kind_in nodes.old key.now) ≡ false }
     requires counted { (q : List ℕ) → one (is_under key.now q) ≤ count_in nodes.old q }

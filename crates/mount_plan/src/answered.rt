@@ -8,7 +8,7 @@ use mount_model::{Heard, Told};
 use mp_rules::Known;
 use mp_types::Errno;
 
-// The last answer, where it told a fact.
+/// The last answer, where it told a fact.
 pub fn last_fact(last: Option<&Told>) -> Option<&Known>
     ensures { option_copied result ≡ last_fact (option_copied last.entry) }
 {
@@ -28,14 +28,14 @@ fn last_answer(last: Option<&Told>) -> Option<&Brief>
     }
 }
 
-// The answer that a request goes by where it told no fact.
+/// The answer that a request goes by where it told no fact.
 pub fn first_answer<'a>(heard: &'a Heard, last: Option<&'a Told>) -> Option<&'a Brief>
     ensures { option_copied result ≡ slice_get (with_last (option_copied last.entry) heard.now).answers 0 }
 {
     heard.answers.as_slice().first().or(last_answer(last))
 }
 
-// The error of a call that failed, or whose answer doesn't fit.
+/// The error of a call that failed, or whose answer doesn't fit.
 pub fn errno(answer: &Brief) -> Errno
     ensures { result ≡ errno_of answer.now }
 {

@@ -18,6 +18,7 @@ fn delete_reply(answer: &Brief) -> Reply
     }
 }
 
+/// What a delete by the others does next: its Delete, and then `gone` or the error of the call.
 pub fn delete_plan<'a>(key: &'a Key, heard: &Heard, last: Option<&Told>) -> Plan<'a>
     ensures { Means result (delete_next key.now (with_last (option_copied last.entry) heard.now).answers) }
 {

@@ -13,14 +13,14 @@ use mp_rules::Entry;
 use mp_types::{Errno, PathFault};
 use superblock::{Decision, decide};
 
-// What stands at a path.
+/// What stands at a path.
 pub enum Found {
     // It is the root.
     Root,
     Entry(Entry),
 }
 
-// The error of a faulty path.
+/// The error of a faulty path.
 pub fn path_errno(why: PathFault) -> Errno
     ensures { result ≡ errno_of_path why }
 {
@@ -31,8 +31,8 @@ pub fn path_errno(why: PathFault) -> Errno
     }
 }
 
-// What stands at a path, given by what stands behind its first `/`, or what the line does where that isn't told yet
-// or can't be.
+/// What stands at a path, given by what stands behind its first `/`, or what the line does where that isn't told yet
+/// or can't be.
 pub fn look_up<'a>(
     below: &'a str,
     view: &View<'_>,

@@ -22,6 +22,7 @@ fn entry_plan(key: &str, entry: Entry) -> Plan<'_>
     }
 }
 
+/// What a `mkdir` does next: a directory is made only where nothing stands.
 pub fn make_plan<'a>(path: &'a str, view: &View<'_>, heard: &Heard, last: Option<&Told>) -> Plan<'a>
     ensures { Means result (make_next (view_of view.now) (path_of path.now) (with_last (option_copied last.entry) heard.now)) }
 {

@@ -27,7 +27,7 @@ fn entry_plan(key: &str, live: usize, entry: Entry) -> Plan<'_>
     }
 }
 
-// A faulty path comes before a name that is that of a live handle.
+/// What an open for reading does next. A faulty path comes before a handle's name that is live.
 pub fn open_plan<'a>(path: &'a str, view: &View<'_>, heard: &Heard, last: Option<&Told>) -> Plan<'a>
     ensures { Means result (open_next (view_of view.now) (option_copied view.now.handle) (path_of path.now) (with_last (option_copied last.entry) heard.now)) }
 {

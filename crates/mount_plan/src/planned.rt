@@ -45,6 +45,7 @@ pub enum Plan<'a> {
     Wait,
 }
 
+/// The plan to fail the line with this error.
 pub fn failed<'a>(errno: Errno) -> Plan<'a>
     ensures { result ≡ Plan.Reply (Reply.Failed errno) }
 {

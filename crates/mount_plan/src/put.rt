@@ -19,6 +19,7 @@ fn put_reply(answer: &Brief) -> Reply
     }
 }
 
+/// What a put by the others does next: its Put, and then the ETag or the error of the call.
 pub fn put_plan<'a>(key: &'a Key, content: &'a Data, heard: &Heard, last: Option<&Told>) -> Plan<'a>
     ensures { Means result (put_next key.now (bytes_of content.now) (with_last (option_copied last.entry) heard.now).answers) }
 {

@@ -49,6 +49,7 @@ fn version_plan<'a>(
     }
 }
 
+/// What a read does next: one get of the version that its handle opened, cut at its size.
 pub fn read_plan<'a>(
     handle: Option<&'a Handle>,
     offset: u64,

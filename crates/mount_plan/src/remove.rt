@@ -26,6 +26,7 @@ fn entry_plan<'a>(key: &'a str, names: &Locals, entry: Entry) -> Plan<'a>
     }
 }
 
+/// What a `rmdir` does next: only a local directory with nothing below it is removed.
 pub fn remove_plan<'a>(
     path: &'a str,
     view: &View<'_>,

@@ -21,6 +21,7 @@ fn stat_reply(entry: Entry) -> Reply
     }
 }
 
+/// What a stat does next: a directory, or a file with its size.
 pub fn stat_plan<'a>(path: &'a str, view: &View<'_>, heard: &Heard, last: Option<&Told>) -> Plan<'a>
     ensures { Means result (stat_next (view_of view.now) (path_of path.now) (with_last (option_copied last.entry) heard.now)) }
 {

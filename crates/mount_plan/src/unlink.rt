@@ -33,7 +33,8 @@ fn entry_plan(key: &str, may_delete: bool, entry: Entry) -> Plan<'_>
     }
 }
 
-// Once the object is gone, the walk is not done again.
+/// What an `unlink` does next: the Delete of a file, where the options allow it. Once the object is gone,
+/// the walk is not done again.
 pub fn unlink_plan<'a>(
     path: &'a str,
     view: &View<'_>,

@@ -42,7 +42,7 @@ fn pattern(word: &[u8]) -> Result<Data, ScriptCause>
     })
 }
 
-// The bytes that a word gives. Those of a pattern are written out by none but their users.
+/// The bytes that a word gives. Those of a pattern are written out by none but their users.
 pub fn content(alloc: Global, word: &[u8]) -> Result<Data, Fault>
     ensures { Gives (λ content. content) result (content_of word.now) }
 {

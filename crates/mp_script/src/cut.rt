@@ -3,14 +3,14 @@ ghost use Rattle.mp_script.specs.Words.{has, parts_of, has_empty};
 
 use memchr::{memchr, memmem};
 
-// The bytes on either side of a separator.
+/// The bytes on either side of a separator.
 #[derive(Clone, Copy)]
 pub struct Parted<'a> {
     pub before: &'a [u8],
     pub after: &'a [u8],
 }
 
-// Cuts the text at the first separator.
+/// Cuts the text at the first separator.
 pub fn cut(text: &[u8], separator: u8) -> Option<Parted<'_>>
     ensures { MatchOption result (has separator text.now ≡ false) (λ p. (text.now ≡ p.before.now ++ separator ∷ p.after.now) × (has separator p.before.now ≡ false)) }
 {
@@ -26,7 +26,7 @@ pub fn cut(text: &[u8], separator: u8) -> Option<Parted<'_>>
     }
 }
 
-// The text as its only part.
+/// The text as its only part.
 pub fn one_part(text: &[u8], separator: u8) -> Option<&[u8]>
     ensures { MatchOption result (length (parts_of separator text.now) ≢ 1) (λ part. parts_of separator text.now ≡ part.now ∷ []) }
 {
@@ -36,7 +36,7 @@ pub fn one_part(text: &[u8], separator: u8) -> Option<&[u8]>
     }
 }
 
-// The text's only two parts.
+/// The text's only two parts.
 pub fn two_parts(text: &[u8], separator: u8) -> Option<Parted<'_>>
     ensures { MatchOption result (length (parts_of separator text.now) ≢ 2) (λ p. parts_of separator text.now ≡ p.before.now ∷ p.after.now ∷ []) }
 {
@@ -52,7 +52,7 @@ pub fn two_parts(text: &[u8], separator: u8) -> Option<Parted<'_>>
     }
 }
 
-// The text's first part, and the two behind it, where there are no more.
+/// The text's first part, and the two behind it, where there are no more.
 pub fn three_parts(text: &[u8], separator: u8) -> Option<(&[u8], Parted<'_>)>
     ensures { MatchOption result (length (parts_of separator text.now) ≢ 3) (λ p. parts_of separator text.now ≡ p.0.now ∷ p.1.before.now ∷ p.1.after.now ∷ []) }
 {
@@ -65,7 +65,7 @@ pub fn three_parts(text: &[u8], separator: u8) -> Option<(&[u8], Parted<'_>)>
     }
 }
 
-// Whether an empty word stands between spaces, or at an end.
+/// Whether an empty word stands between spaces, or at an end.
 pub fn has_empty_word(line: &[u8]) -> bool
     ensures { result ≡ has_empty line.now }
 {

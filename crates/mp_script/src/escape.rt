@@ -90,7 +90,7 @@ fn unescaped(alloc: Global, text: &[u8]) -> Result<Vec<u8>, Fault>
     Ok(bytes)
 }
 
-// What an escaped word stands for.
+/// What an escaped word stands for.
 pub fn escaped_bytes(alloc: Global, word: &[u8]) -> Result<Vec<u8>, Fault>
     ensures { Gives (λ v. v.items) result (script.escaped_bytes word.now) }
 {
@@ -100,7 +100,7 @@ pub fn escaped_bytes(alloc: Global, word: &[u8]) -> Result<Vec<u8>, Fault>
     unescaped(alloc, word)
 }
 
-// The text that an escaped word stands for.
+/// The text that an escaped word stands for.
 pub fn text(alloc: Global, word: &[u8]) -> Result<String, Fault>
     ensures { Gives string_bytes result (text_of word.now) }
 {

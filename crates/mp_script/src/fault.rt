@@ -15,7 +15,7 @@ pub enum ScriptError {
     Memory,
 }
 
-// Why a line was not read.
+/// Why a line was not read.
 #[derive(Clone, Copy, Debug, PartialEq, Eq)]
 pub enum Fault {
     Cause(ScriptCause),

@@ -12,6 +12,7 @@ use mount_model::{Request, ScriptCause};
 use mp_types::Text;
 use std::alloc::Global;
 
+/// The verbs of the script.
 #[derive(Clone, Copy, Debug, PartialEq, Eq)]
 pub enum Verb {
     Await,
@@ -248,7 +249,7 @@ fn words_asked(alloc: Global, line: &[u8]) -> Result<(u16, Request), Fault>
     }
 }
 
-// Who asks for what in a line.
+/// Who asks for what in a line.
 pub fn asked(alloc: Global, line: &[u8]) -> Result<(u16, Request), Fault>
     ensures { Gives asked result (asked_of line.now) }
 {

@@ -40,7 +40,7 @@ fn capped_number(digits: &[u8]) -> u64
     number
 }
 
-// The number that a word spells, where it spells one up to this.
+/// The number that a word spells, where it has at most 40 digits and is at most the greatest.
 pub fn number_up_to(word: &[u8], greatest: u64) -> Option<u64>
     requires { greatest < 2 ^ 64 - 1 }
     ensures value { MatchOption result (is_number_up_to greatest word.now ≡ false) (λ number. (is_number_up_to greatest word.now ≡ true) × (number ≡ number_of word.now)) }
@@ -56,6 +56,7 @@ pub fn number_up_to(word: &[u8], greatest: u64) -> Option<u64>
     Some(number)
 }
 
+/// The actor that a word spells: 0 for the others, 1 to 999 for a process.
 pub fn actor(word: &[u8]) -> Result<u16, ScriptCause>
     ensures { result ≡ actor_of word.now }
 {
@@ -65,6 +66,7 @@ pub fn actor(word: &[u8]) -> Result<u16, ScriptCause>
     }
 }
 
+/// The number of a handle that a word spells, up to 65,535.
 pub fn handle(word: &[u8]) -> Result<u16, ScriptCause>
     ensures { result ≡ handle_word word.now }
 {
@@ -74,7 +76,7 @@ pub fn handle(word: &[u8]) -> Result<u16, ScriptCause>
     }
 }
 
-// An offset or a count.
+/// The offset or the count that a word spells, less than 2^63.
 pub fn number(word: &[u8]) -> Result<u64, ScriptCause>
     ensures { result ≡ number_word word.now }
 {
@@ -84,6 +86,7 @@ pub fn number(word: &[u8]) -> Result<u64, ScriptCause>
     }
 }
 
+/// The key that an escaped word stands for, of 1 to 1,024 bytes.
 pub fn key(alloc: Global, word: &[u8]) -> Result<Key, Fault>
     ensures { Gives (λ key. key) result (key_of word.now) }
 {
@@ -95,6 +98,7 @@ pub fn key(alloc: Global, word: &[u8]) -> Result<Key, Fault>
     }
 }
 
+/// The text of a path that an escaped word stands for. Whether it is a path is for the request to say.
 pub fn path(alloc: Global, word: &[u8]) -> Result<Text, Fault>
     ensures { Gives (λ path. path) result (text_of word.now) }
 {

@@ -5,7 +5,7 @@ ghost use Rattle.superblock.specs.Asked.{question_of};
 
 use mp_rules::{Fact, Known, Question};
 
-// A question about a key that stands in a text of someone else.
+/// A question about a key that stands in a text of someone else.
 #[derive(Clone, Copy)]
 pub enum Asked<'a> {
     Head(&'a str),
@@ -63,8 +63,8 @@ fn known_last<'a>(asked: Asked<'_>, last: Option<&'a Known>) -> Option<&'a Known
     }
 }
 
-// The answer to a question, where it is among the own ones or is the last one. `next` is the place behind the last own
-// one found, and only makes the look-up fast.
+/// The answer to a question, where it is among the own ones or is the last one. `next` is the place behind the last own
+/// one found, and only makes the look-up fast.
 pub fn fact_of<'a>(
     asked: Asked<'_>,
     own: &'a [Known],

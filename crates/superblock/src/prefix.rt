@@ -8,7 +8,7 @@ fn first_name_length(text: &[u8]) -> usize
     text.iter().take_while(|byte| **byte != b'/').count()
 }
 
-// Where the name that begins here ends.
+/// Where the name that begins here ends.
 pub fn name_end(path: &str, start: usize) -> usize
     requires start { start ≤ length path.now }
     requires short { length path.now ≤ 1024 }
