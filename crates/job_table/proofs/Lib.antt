@@ -1,3 +1,5 @@
 pub mod AllJobs
 pub mod Entries
+pub mod Known
+pub mod Places
 pub mod Rising

@@ -1,7 +1,11 @@
-ghost use Rattle.std.specs.Prelude.{◌≡◌, ◌+◌, ◌↔◌, ◌∷◌, [], ◌++◌, Some, IfOk, OnOk, OnErr, IsTrue, length, slice_get};
+ghost use Rattle.std.specs.Prelude.{◌≡◌, ◌+◌, ◌^◌, ◌<◌, ◌≤◌, ◌↔◌, ◌∷◌, [], ◌++◌, Some, IfOk, OnOk, OnErr, IsTrue, length, slice_get};
+ghost use Rattle.mount_model.specs.declared.event.Event.TheVariants.{Take, Done};
+ghost use Rattle.mount_model.specs.Step.{step_of, with_ask, change_last, MayAsk};
 ghost use Rattle.job_table.specs.LiveJobs.{Held, IsReadyIn, IsOutIn, held_at, with_taken, without, ready_numbers};
 
-use bucket_model::Call;
+use crate::journal::Journal;
+use bucket_model::{Brief, Call};
+use mount_model::{Ask, AskedCall, Event, Owner};
 use mp_rules::Question;
 use std::alloc::{AllocError, Global};
 use std::collections::{BTreeMap, BTreeSet};
@@ -13,6 +17,16 @@ struct Live {
     line: u32,
     call: Option<Call>,
     question: Option<Question>,
+}
+
+/// What a turn asks for: a call, whose job it is, how the record tells it, and the question that it asks, if it asks
+/// one.
+#[derive(Debug, Drop)]
+pub struct Asking {
+    pub owner: Owner,
+    pub call: Call,
+    pub asked: AskedCall,
+    pub question: Option<Question>,
 }
 
 /// Whose turn asked, and the question that was asked, if it was one.
@@ -55,14 +69,8 @@ impl Jobs {
         }
     }
 
-    /// One more job, which is ready, of the line whose turn asks for it, and its number. The question is the one that
-    /// the call asks, if it asks one. An error, which is want of memory or of numbers, drops both.
-    pub fn ask(
-        &mut self,
-        line: u32,
-        call: Call,
-        question: Option<Question>,
-    ) -> Result<u64, AllocError>
+    // One more job, which is ready, and its number. An error drops the call and the question.
+    fn add(&mut self, line: u32, call: Call, question: Option<Question>) -> Result<u64, AllocError>
         ensures number { IfOk result (λ number. number ≡ self.old.count + 1) }
         ensures ok { OnOk result (self.new ≡ record { count = self.old.count + 1; held = self.old.held ++ record { number = self.old.count + 1; line = line; call = Some call; question = question } ∷ [] }) }
         ensures err { OnErr result (self.new ≡ self.old) }
@@ -91,13 +99,58 @@ impl Jobs {
         Ok(number)
     }
 
+    /// One more job, which is ready, of the line whose turn asks for it, and its number. Room for the entries of its
+    /// ask, its take and its end is made here, beside so much that is owed already. An error, which is want of memory
+    /// or of numbers, changes nothing that is seen.
+    pub fn ask(
+        &mut self,
+        journal: &mut Journal,
+        owed: usize,
+        line: u32,
+        asking: Asking,
+    ) -> Result<u64, AllocError>
+        requires { MayAsk journal.old.steps }
+        ensures number { IfOk result (λ number. number ≡ self.old.count + 1) }
+        ensures ok { OnOk result (self.new ≡ record { count = self.old.count + 1; held = self.old.held ++ record { number = self.old.count + 1; line = line; call = Some asking.call; question = asking.question } ∷ [] }) }
+        ensures steps { OnOk result (journal.new.steps ≡ change_last (with_ask (record { job = self.old.count + 1; owner = asking.owner; call = asking.asked })) journal.old.steps) }
+        ensures room { OnOk result (owed + 2 ≤ journal.new.room) }
+        ensures fits { OnOk result (owed + 2 < 2 ^ 64) }
+        ensures err { OnErr result (self.new ≡ self.old) }
+        ensures unasked { OnErr result (journal.new.steps ≡ journal.old.steps) }
+        ensures kept { OnErr result (journal.old.room ≤ journal.new.room) }
+        ensures known { journal.new.known ≡ journal.old.known }
+    {
+        let Some(items) = owed.checked_add(3) else {
+            return Err(AllocError);
+        };
+        journal.make_room(items)?;
+        let Asking {
+            owner,
+            call,
+            asked,
+            question,
+        } = asking;
+        let job = self.add(line, call, question)?;
+        journal.ask(Ask {
+            job,
+            owner,
+            call: asked,
+        });
+        Ok(job)
+    }
+
     /// The call of a ready job, which is out from now on. Takes no memory.
-    pub fn take(&mut self, job: u64) -> Call
-        requires { IsReadyIn job self.old.held }
+    pub fn take(&mut self, journal: &mut Journal, job: u64, time: u64, from: u64) -> Call
+        requires ready { IsReadyIn job self.old.held }
+        requires room { 0 < journal.old.room }
         ensures call { (h : Held) → held_at job self.old.held ≡ Some h → h.call ≡ Some result }
         ensures count { self.new.count ≡ self.old.count }
         ensures held { self.new.held ≡ with_taken job self.old.held }
+        ensures steps { journal.new.steps ≡ journal.old.steps ++ step_of (Take job time from) ∷ [] }
+        ensures room { journal.new.room + 1 ≡ journal.old.room }
+        ensures known { journal.new.known ≡ journal.old.known }
     {
+        journal.event(Event::Take { job, time, from });
         let live = match self.live.get_mut(&job) {
             Some(live) => live,
             None => unreachable!(),
@@ -111,12 +164,21 @@ impl Jobs {
     }
 
     /// Who asked for this job, which is out, and is gone from now on. Takes no memory.
-    pub fn done(&mut self, job: u64) -> Asker
-        requires { IsOutIn job self.old.held }
+    pub fn done(&mut self, journal: &mut Journal, job: u64, position: u64, answer: Brief) -> Asker
+        requires out { IsOutIn job self.old.held }
+        requires room { 0 < journal.old.room }
         ensures asker { (h : Held) → held_at job self.old.held ≡ Some h → (result.line ≡ h.line) × (result.question ≡ h.question) }
         ensures count { self.new.count ≡ self.old.count }
         ensures held { self.new.held ≡ without job self.old.held }
+        ensures steps { journal.new.steps ≡ journal.old.steps ++ step_of (Done job position answer) ∷ [] }
+        ensures room { journal.new.room + 1 ≡ journal.old.room }
+        ensures known { journal.new.known ≡ journal.old.known }
     {
+        journal.event(Event::Done {
+            job,
+            position,
+            answer,
+        });
         match self.live.remove(&job) {
             Some(live) => Asker {
                 line: live.line,
@@ -151,12 +213,22 @@ impl Jobs {
 #[cfg(test)]
 mod tests {
     use super::*;
+    use mount_model::Item;
     use mp_types::Key;
     use std::test::Fail;
 
-    fn head(alloc: Global, key: &str) -> Result<Call, Fail> {
-        let key = Key::parse(alloc, key)?;
-        Ok(Call::Head { key })
+    // The call with its question, if one stands here.
+    fn head(alloc: Global, key: &str, question: Option<Question>) -> Result<Asking, Fail> {
+        Ok(Asking {
+            owner: Owner::Line(7),
+            call: Call::Head {
+                key: Key::parse(alloc, key)?,
+            },
+            asked: AskedCall::Head {
+                key: Key::parse(alloc, key)?,
+            },
+            question,
+        })
     }
 
     fn is_head(call: &Call, expected: &str) -> bool {
@@ -177,27 +249,42 @@ mod tests {
         }
     }
 
+    // A step has begun.
+    fn begun(alloc: Global) -> Result<Journal, Fail>
+        ensures { IfOk result (λ journal. MayAsk journal.steps) }
+    {
+        let mut journal = Journal::new(alloc, &[])?;
+        journal.make_room(1)?;
+        journal.event(Event::Begin { line: 7, time: 0 });
+        Ok(journal)
+    }
+
+    fn is_taken(item: Option<&Item>, expected: u64) -> bool {
+        match item {
+            Some(Item::Event(Event::Take { job, .. })) => *job == expected,
+            _ => false,
+        }
+    }
+
     #[test]
     fn a_job_is_ready_until_it_is_taken(rt: HostRuntime) -> Result<(), Fail> {
         let alloc = rt.alloc();
+        let mut journal = begun(alloc)?;
         let mut jobs = Jobs::new(alloc);
-        assert_eq!(rt; jobs.ask(7, head(alloc, "a")?, None)?, 1);
-        assert_eq!(rt;
-            jobs.ask(8, head(alloc, "b")?, Some(asked(alloc, "b")?))?,
-            2
-        );
-        assert_eq!(rt; jobs.ask(9, head(alloc, "c")?, None)?, 3);
+        let first = head(alloc, "a", None)?;
+        assert_eq!(rt; jobs.ask(&mut journal, 0, 7, first)?, 1);
+        let second = head(alloc, "b", Some(asked(alloc, "b")?))?;
+        assert_eq!(rt; jobs.ask(&mut journal, 2, 8, second)?, 2);
         assert_eq!(rt; jobs.ready(0), Some(1));
         assert_eq!(rt; jobs.ready(1), Some(2));
-        assert_eq!(rt; jobs.ready(2), Some(3));
-        assert_eq!(rt; jobs.ready(3), None);
-        assert_eq!(rt; jobs.ready_len(), 3);
-        let second = jobs.take(2);
-        assert!(rt; is_head(&second, "b"));
-        assert_eq!(rt; jobs.ready(1), Some(3));
         assert_eq!(rt; jobs.ready(2), None);
         assert_eq!(rt; jobs.ready_len(), 2);
-        let asker = jobs.done(2);
+        let call = jobs.take(&mut journal, 2, 1, 0);
+        assert!(rt; is_head(&call, "b"));
+        assert!(rt; is_taken(journal.record().items().last(), 2));
+        assert_eq!(rt; jobs.ready(1), None);
+        assert_eq!(rt; jobs.ready_len(), 1);
+        let asker = jobs.done(&mut journal, 2, 0, Brief::Missing);
         assert_eq!(rt; asker.line, 8);
         assert!(rt; is_asked(&asker.question, "b"));
         assert_eq!(rt; jobs.ready(0), Some(1));
@@ -207,18 +294,19 @@ mod tests {
     #[test]
     fn a_job_is_there_until_it_is_done(rt: HostRuntime) -> Result<(), Fail> {
         let alloc = rt.alloc();
+        let mut journal = begun(alloc)?;
         let mut jobs = Jobs::new(alloc);
         assert!(rt; jobs.is_empty());
-        assert_eq!(rt; jobs.ask(7, head(alloc, "a")?, None)?, 1);
-        let call = jobs.take(1);
+        let asking = head(alloc, "a", None)?;
+        assert_eq!(rt; jobs.ask(&mut journal, 0, 7, asking)?, 1);
+        let call = jobs.take(&mut journal, 1, 1, 0);
         assert!(rt; is_head(&call, "a"));
         assert_eq!(rt; jobs.ready(0), None);
         assert!(rt; !jobs.is_empty());
-        let asker = jobs.done(1);
+        let asker = jobs.done(&mut journal, 1, 0, Brief::Missing);
         assert_eq!(rt; asker.line, 7);
         assert!(rt; asker.question.is_none());
         assert!(rt; jobs.is_empty());
-        assert_eq!(rt; jobs.ask(7, head(alloc, "b")?, None)?, 2);
         Ok(())
     }
 }

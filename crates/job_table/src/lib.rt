@@ -1,7 +1,10 @@
-//! The jobs that are ready or out: which may be taken, what they call, and whose turn asked for them.
-//! Neither calls a bucket nor knows of a line more than its number. Jobs whose answer came leave no trace but the count.
+//! The jobs that are ready or out: which may be taken, what they call, and whose turn asked for them; and the journal,
+//! in which a job's ask, its take and its end are recorded. Room for all three is made when a job is asked.
+//! Neither calls a bucket. Jobs whose answer came leave no trace but the count and what is recorded.
 #![tactic(auto)]
 
 mod jobs;
+mod journal;
 
-pub use jobs::{Asker, Jobs};
+pub use jobs::{Asker, Asking, Jobs};
+pub use journal::Journal;

@@ -8,5 +8,4 @@ pub mod Dues
 pub mod Kept
 pub mod Turns
 pub mod Hearing
-pub mod Places
 pub mod Known

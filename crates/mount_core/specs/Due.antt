@@ -18,7 +18,7 @@ MayLack (Gives count) = ⊥
 MayLack Waits = ⊥
 
 abbrev pub DueMeans : Due → Owner → Next → Type 0
-DueMeans (due.Call owner call asked question) expected next = (next ≡ Asks call) × (owner ≡ expected)
+DueMeans (due.Call asking) expected next = (next ≡ Asks asking.call) × (asking.owner ≡ expected)
 DueMeans (due.Reply said) expected next = next ≡ Replies said
 DueMeans (due.MakeDir key) expected next = next ≡ Makes key
 DueMeans due.RemoveDir expected next = (key : List ℕ) × (next ≡ Removes key)
@@ -29,7 +29,7 @@ DueMeans due.NoMemory expected next = MayLack next
 
 -- the record tells the call that is made, and the question is the one that it asks
 abbrev pub DueTells : Due → Type 0
-DueTells (due.Call owner call asked question) = (asked ≡ asked_of call) × (question ≡ question_of call)
+DueTells (due.Call asking) = (asking.asked ≡ asked_of asking.call) × (asking.question ≡ question_of asking.call)
 DueTells (due.Reply said) = Unit {0}
 DueTells (due.MakeDir key) = Unit {0}
 DueTells due.RemoveDir = Unit {0}

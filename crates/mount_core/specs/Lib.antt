@@ -1,6 +1,5 @@
 pub mod Core
 pub mod Due
-pub mod Journal
 pub mod Rising
 pub mod Room
 pub mod Shared

@@ -9,6 +9,7 @@ ghost use Rattle.mount_core.specs.Due.{DueMeans, DueTells};
 
 use bucket_model::Call;
 use bytes::Bytes;
+use job_table::Asking;
 use mount_model::{AskedCall, Handle, Heard, Owner, Reply, Request, Told, Version};
 use mount_plan::{Plan, View, plan};
 use mp_rules::Question;
@@ -18,13 +19,8 @@ use std::alloc::{AllocError, Global};
 /// What is due of a line, with all the memory that it takes.
 #[derive(Drop)]
 pub enum Due {
-    /// A call, whose job it is, how the record tells it, and the question that it asks, if it asks one.
-    Call {
-        owner: Owner,
-        call: Call,
-        asked: AskedCall,
-        question: Option<Question>,
-    },
+    /// A call of the line.
+    Call(Asking),
     Reply(Reply),
     /// The directory of this key.
     MakeDir(Key),
@@ -80,12 +76,12 @@ fn probe(alloc: Global, owner: Owner, text: &str) -> Due
     ensures tells { DueTells result }
 {
     match three_keys(alloc, text) {
-        Ok((key, told, asked)) => Due::Call {
+        Ok((key, told, asked)) => Due::Call(Asking {
             owner,
             call: Call::Probe { key },
             asked: AskedCall::Probe { key: told },
             question: Some(Question::Probe(asked)),
-        },
+        }),
         Err(_) => Due::NoMemory,
     }
 }
@@ -97,12 +93,12 @@ fn head(alloc: Global, owner: Owner, text: &str) -> Due
     ensures tells { DueTells result }
 {
     match three_keys(alloc, text) {
-        Ok((key, told, asked)) => Due::Call {
+        Ok((key, told, asked)) => Due::Call(Asking {
             owner,
             call: Call::Head { key },
             asked: AskedCall::Head { key: told },
             question: Some(Question::Head(asked)),
-        },
+        }),
         Err(_) => Due::NoMemory,
     }
 }
@@ -118,7 +114,7 @@ fn get(alloc: Global, owner: Owner, version: &Version, from: u64, to: u64) -> Du
     ensures tells { DueTells result }
 {
     match copy_twice(alloc, &version.key) {
-        Ok((key, told)) => Due::Call {
+        Ok((key, told)) => Due::Call(Asking {
             owner,
             call: Call::Get {
                 key,
@@ -133,7 +129,7 @@ fn get(alloc: Global, owner: Owner, version: &Version, from: u64, to: u64) -> Du
                 to,
             },
             question: None,
-        },
+        }),
         Err(_) => Due::NoMemory,
     }
 }
@@ -145,12 +141,12 @@ fn delete(alloc: Global, owner: Owner, text: &str) -> Due
     ensures tells { DueTells result }
 {
     match two_keys(alloc, text) {
-        Ok((key, told)) => Due::Call {
+        Ok((key, told)) => Due::Call(Asking {
             owner,
             call: Call::Delete { key },
             asked: AskedCall::Delete { key: told },
             question: None,
-        },
+        }),
         Err(_) => Due::NoMemory,
     }
 }
@@ -179,12 +175,12 @@ fn put(alloc: Global, owner: Owner, key: &Key, content: &Data) -> Due
     match put_parts(alloc, key, content) {
         Ok((key, told, bytes)) => {
             let length = bytes.len() as u64;
-            Due::Call {
+            Due::Call(Asking {
                 owner,
                 call: Call::Put { key, bytes },
                 asked: AskedCall::Put { key: told, length },
                 question: None,
-            }
+            })
         }
         Err(_) => Due::NoMemory,
     }

@@ -4,7 +4,6 @@
 
 mod client;
 mod due;
-mod journal;
 mod seen;
 mod turn;
 mod work;

@@ -14,11 +14,10 @@ ghost use Rattle.mount_core.specs.Due.{DueTells};
 use crate::due::Due;
 use crate::seen::name_in;
 use crate::work::Work;
-use bucket_model::Call;
 use bytes::Bytes;
-use mount_model::{Ask, AskedCall, Handle, Owner, Reply, Request, Told, Version};
+use job_table::Asking;
+use mount_model::{Handle, Reply, Request, Told, Version};
 use mp_handles::{Handles, OpenFault};
-use mp_rules::Question;
 use mp_types::{Errno, Key, below_root};
 use std::alloc::AllocError;
 
@@ -62,38 +61,18 @@ impl Work {
         }
     }
 
-    /// The line asks for a call. All memory is found first; the last answer is kept where the line goes on.
-    fn ask_call(
-        &mut self,
-        line: u32,
-        owner: Owner,
-        call: Call,
-        asked: AskedCall,
-        question: Option<Question>,
-        last: Option<Told>,
-    ) -> Result<(), AllocError>
+    /// The line asks for a call. The last answer is kept first, so that an error may leave it heard.
+    fn ask_call(&mut self, line: u32, asking: Asking, last: Option<Told>) -> Result<(), AllocError>
         requires begun { HasBegun line self.old.lines }
         requires may { MayAsk self.old.record.steps }
-        requires told { asked ≡ asked_of call }
-        requires asks { question ≡ question_of call }
-        ensures ok { OnOk result (Asks line owner call last self.old self.new) }
+        requires told { asking.asked ≡ asked_of asking.call }
+        requires asks { asking.question ≡ question_of asking.call }
+        ensures ok { OnOk result (Asks line asking.owner asking.call last self.old self.new) }
         ensures err { OnErr result (AsksNot line self.old self.new) }
         ensures shared { shared_in self.new ≡ shared_in self.old }
     {
-        let Some(room) = self.owed.checked_add(3) else {
-            return Err(AllocError);
-        };
-        self.record.make_room(room)?;
         self.keep_answer(line, last)?;
-        let job = match self.jobs.ask(line, call, question) {
-            Ok(job) => job,
-            Err(refused) => return Err(refused),
-        };
-        self.record.ask(Ask {
-            job,
-            owner,
-            call: asked,
-        });
+        self.jobs.ask(&mut self.record, self.owed, line, asking)?;
         self.owed += 2;
         Ok(())
     }
@@ -209,12 +188,7 @@ impl Work {
         ensures { GoesOn line last bytes self.old self.new }
     {
         match due {
-            Due::Call {
-                owner,
-                call,
-                asked,
-                question,
-            } => match self.ask_call(line, owner, call, asked, question, last) {
+            Due::Call(asking) => match self.ask_call(line, asking, last) {
                 Ok(()) => {}
                 Err(_) => self.reply_line(line, Reply::Failed(Errno::Enomem)),
             },

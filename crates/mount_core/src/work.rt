@@ -9,14 +9,13 @@ ghost use Rattle.mount_model.specs.Run.{AreRising, startable, is_among};
 ghost use Rattle.line_table.specs.Table.{HasBegun};
 ghost use Rattle.job_table.specs.LiveJobs.{Held, held_at, with_taken, without, IsReadyIn, IsOutIn};
 ghost use Rattle.mount_core.specs.Due.{DueMeans, DueTells};
-ghost use Rattle.mount_core.specs.Journal.{all_known};
+ghost use Rattle.job_table.specs.Journal.{all_known};
 ghost use Rattle.mount_core.specs.Rising.{AreRising-prop};
 ghost use Rattle.mount_core.specs.Room.{owes_lines, owes_jobs};
 
 use crate::due::{Due, due_of};
-use crate::journal::Journal;
 use bucket_model::{Brief, Call};
-use job_table::{Asker, Jobs};
+use job_table::{Asker, Jobs, Journal};
 use line_table::Lines;
 use local_names::Locals;
 use mount_model::{Answered, Event, Handle, Phase, Reply, Script, Told};
@@ -108,8 +107,7 @@ impl Work {
     {
         let time = self.time.max(time);
         self.time = time;
-        self.record.event(Event::Take { job, time, from });
-        let call = self.jobs.take(job);
+        let call = self.jobs.take(&mut self.record, job, time, from);
         self.owed -= 1;
         call
     }
@@ -125,12 +123,7 @@ impl Work {
         ensures held { self.new.jobs.held ≡ without job self.old.jobs.held }
         ensures shared { shared_in self.new ≡ shared_in self.old }
     {
-        self.record.event(Event::Done {
-            job,
-            position,
-            answer,
-        });
-        let asker = self.jobs.done(job);
+        let asker = self.jobs.done(&mut self.record, job, position, answer);
         self.owed -= 1;
         asker
     }

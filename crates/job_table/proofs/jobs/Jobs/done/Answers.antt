@@ -5,10 +5,10 @@ use Rattle.job_table.proofs.Entries.{entry_stands, entry_is, held_without, keeps
 use Rattle.job_table.proofs.jobs.Jobs.done.Goals as goal
 
 pub unreachable-requires : goal.unreachable-requires
-unreachable-requires c = entry_stands c.args.job c.self.inside.live.entries c.requires.job (rw (← c.self.view_is) at c.requires.stands) c.in-None.ensures.value
+unreachable-requires c = entry_stands c.args.job c.self.inside.live.entries c.requires.out.job (rw (← c.self.view_is) at c.requires.out.stands) c.in-None.ensures.value
 
 pub invariant_of-self : goal.invariant_of-self
-invariant_of-self c = keeps_without c.args.job c.self.inside.live.entries _ c.self.inside.ready.keys c.self.inside.count c.self.invariant (rw (← c.self.view_is) at c.requires) c.remove.ensures.entries
+invariant_of-self c = keeps_without c.args.job c.self.inside.live.entries _ c.self.inside.ready.keys c.self.inside.count c.self.invariant (rw (← c.self.view_is) at c.requires.out) c.remove.ensures.entries
 
 pub returns-clause-asker : goal.returns-clause-asker
 returns-clause-asker c = λ h stands.

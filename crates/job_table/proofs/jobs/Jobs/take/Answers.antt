@@ -6,13 +6,13 @@ use Rattle.job_table.proofs.Entries.{entry_stands, entry_is, held_taken, keeps_t
 use Rattle.job_table.proofs.jobs.Jobs.take.Goals as goal
 
 pub unreachable-requires : goal.unreachable-requires
-unreachable-requires c = entry_stands c.args.job c.self.inside.live.entries c.requires.job (rw (← c.self.view_is) at c.requires.stands) c.in-None.ensures.value
+unreachable-requires c = entry_stands c.args.job c.self.inside.live.entries c.requires.ready.job (rw (← c.self.view_is) at c.requires.ready.stands) c.in-None.ensures.value
 
 pub unreachable-requires-in-None-take : goal.unreachable-requires-in-None-take
 unreachable-requires-in-None-take c =
-    let is = entry_is c.args.job c.self.inside.live.entries c.requires.job c.in-Some.live.now (rw (← c.self.view_is) at c.requires.stands) c.in-Some.ensures.value in
-    let call : c.requires.job.call ≡ None = ap (λ (h : Held). h.call) is ∙ sym c.take.ensures.value ∙ c.in-None-take.is in
-    let waits = c.requires.waits in
+    let is = entry_is c.args.job c.self.inside.live.entries c.requires.ready.job c.in-Some.live.now (rw (← c.self.view_is) at c.requires.ready.stands) c.in-Some.ensures.value in
+    let call : c.requires.ready.job.call ≡ None = ap (λ (h : Held). h.call) is ∙ sym c.take.ensures.value ∙ c.in-None-take.is in
+    let waits = c.requires.ready.waits in
     absurd (cc)
 
 pub invariant_of-self : goal.invariant_of-self

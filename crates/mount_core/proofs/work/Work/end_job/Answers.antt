@@ -2,8 +2,8 @@ use Rattle.std.proofs.Common.{arith}
 use Rattle.mount_core.proofs.Owing.{owes_jobs-without}
 use Rattle.mount_core.proofs.work.Work.end_job.Goals as goal
 
-pub event-requires : goal.event-requires
-event-requires c = omega (arith, owes_jobs-without c.args.job c.args.self.now.jobs.held c.requires)
+pub done-asker-requires-clause-room : goal.done-asker-requires-clause-room
+done-asker-requires-clause-room c = omega (arith, owes_jobs-without c.args.job c.args.self.now.jobs.held c.requires)
 
 pub overflow_sub-self : goal.overflow_sub-self
 overflow_sub-self c = omega (arith, owes_jobs-without c.args.job c.args.self.now.jobs.held c.requires)
@@ -14,7 +14,7 @@ invariant_of-self c =
     record {
       counted = rw c.done-asker.ensures.held (omega arith);
       enough = omega arith;
-      knows = rw c.event.ensures.known c.args.self.now.knows;
+      knows = rw c.done-asker.ensures.known c.args.self.now.knows;
       no_files = c.args.self.now.no_files;
       rising = c.args.self.now.rising;
     }

@@ -10,7 +10,7 @@ use Rattle.mount_core.proofs.work.Work.go_on.Goals as goal
 pub returns-in-Ok : goal.returns-in-Ok
 returns-in-Ok c =
     let due = subst (λ d. MayGoOn c.args.line d c.args.last c.args.bytes c.args.self.now) c.in-Call.is c.requires.turn in
-    goes_asking c.args.line c.in-Call.owner c.args.last c.in-Call.call c.args.bytes c.args.self.now c.ask_call.new.self c.requires.begun due.means.0 due.means.1 c.in-Ok.ensures.ok c.ask_call.ensures.shared
+    goes_asking c.args.line c.in-Call.asking.owner c.args.last c.in-Call.asking.call c.args.bytes c.args.self.now c.ask_call.new.self c.requires.begun due.means.0 due.means.1 c.in-Ok.ensures.ok c.ask_call.ensures.shared
 
 pub returns-in-Call : goal.returns-in-Call
 returns-in-Call c =
@@ -21,7 +21,7 @@ returns-in-Call c =
     let same = c.reply_line.ensures.shared ∙ c.ask_call.ensures.shared in
     goes_replying c.args.line c.args.last c.args.bytes (reply.Failed Enomem) next w c.ask_call.new.self c.reply_line.new.self c.requires.begun refl kept.steps kept.lines kept.jobs kept.time
     c.reply_line.ensures.answers
-    (lacks_turn (w.jobs.count + 1) c.args.line (owner_behind c.args.line c.args.last w) next (asks_lack next c.in-Call.call due.means.0))
+    (lacks_turn (w.jobs.count + 1) c.args.line (owner_behind c.args.line c.args.last w) next (asks_lack next c.in-Call.asking.call due.means.0))
     (ap (λ (t : Shared). t.options) same) same tt
 
 pub returns-in-NoMemory : goal.returns-in-NoMemory

@@ -2,8 +2,8 @@ use Rattle.std.proofs.Common.{arith}
 use Rattle.mount_core.proofs.Owing.{owes_jobs-taken}
 use Rattle.mount_core.proofs.work.Work.take_job.Goals as goal
 
-pub event-requires : goal.event-requires
-event-requires c = omega (arith, owes_jobs-taken c.args.job c.args.self.now.jobs.held c.requires)
+pub take-call-requires-clause-room : goal.take-call-requires-clause-room
+take-call-requires-clause-room c = omega (arith, owes_jobs-taken c.args.job c.args.self.now.jobs.held c.requires)
 
 pub overflow_sub-self : goal.overflow_sub-self
 overflow_sub-self c = omega (arith, owes_jobs-taken c.args.job c.args.self.now.jobs.held c.requires)
@@ -14,7 +14,7 @@ invariant_of-self c =
     record {
       counted = rw c.take-call.ensures.held (omega arith);
       enough = omega arith;
-      knows = rw c.event.ensures.known c.args.self.now.knows;
+      knows = rw c.take-call.ensures.known c.args.self.now.knows;
       no_files = c.args.self.now.no_files;
       rising = c.args.self.now.rising;
     }

@@ -14,7 +14,7 @@ use Rattle.mount_model.specs.declared.record.Item.TheVariants as item
 use Rattle.mount_model.specs.Step.{Step, steps_of, IsInOrder}
 use Rattle.mount_model.specs.Replies.{replies_in, reply_to}
 use Rattle.mount_model.proofs.Replies.{replies_of-in_order}
-use Rattle.mount_core.specs.Journal.{is_reply_to, reply_in}
+use Rattle.job_table.specs.Journal.{is_reply_to, reply_in}
 
 -- a reply among the items
 find-replies : (line : ℕ) (items : List Item) → option_map (λ a. a.reply) (find (λ a. eqb a.line line) (flat_map replies_in items)) ≡ option_and_then reply_in (find (is_reply_to line) items)

@@ -1,7 +1,7 @@
 use Rattle.std.proofs.Common.{◌≡◌, ℕ, true, take, None}
 use Rattle.std.specs.BTreeMap.{keys}
-use Rattle.mount_core.specs.Journal.{all_known, place_in}
-use Rattle.mount_core.proofs.journal.no_places.Given as goal
+use Rattle.job_table.specs.Journal.{all_known, place_in}
+use Rattle.job_table.proofs.journal.no_places.Given as goal
 
 abbrev pub invariant-loop-line : goal.invariant-loop-line
 invariant-loop-line l = record {

@@ -1,7 +1,7 @@
 use Rattle.std.proofs.Common.{sym, ap, ◌∙◌}
 use Rattle.std.specs.Option.{is_some}
-use Rattle.mount_core.proofs.Known.{known-get, none_noted, all_known_more}
-use Rattle.mount_core.proofs.journal.no_places.Goals as goal
+use Rattle.job_table.proofs.Known.{known-get, none_noted, all_known_more}
+use Rattle.job_table.proofs.journal.no_places.Goals as goal
 
 pub loop-line-preserved : goal.loop-line-preserved
 loop-line-preserved c =

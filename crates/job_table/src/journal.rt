@@ -5,7 +5,7 @@ ghost use Rattle.std.specs.BTreeMap.{get, keys};
 ghost use Rattle.mount_model.specs.Step.{step_of, with_ask, with_reply, change_last, MayAsk, HasStep};
 ghost use Rattle.mount_model.specs.Replies.{reply_to};
 ghost use Rattle.mount_model.specs.Run.{is_among};
-ghost use Rattle.mount_core.specs.Journal.{all_known, place_in, reply_in};
+ghost use Rattle.job_table.specs.Journal.{all_known, place_in, reply_in};
 
 use mount_model::{Answered, Ask, Event, Item, Line, Record, Reply};
 use std::alloc::{AllocError, Global};
@@ -25,7 +25,7 @@ pub struct Journal {
 
 impl Model for Journal {
     ghost use Rattle.std.specs.BTreeMap.{keys};
-    ghost use Rattle.mount_core.specs.Journal.{Journaled, ArePlaces};
+    ghost use Rattle.job_table.specs.Journal.{Journaled, ArePlaces};
 
     ghost Value = { Journaled };
 

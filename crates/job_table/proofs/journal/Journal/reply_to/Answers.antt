@@ -1,9 +1,9 @@
 use Rattle.std.proofs.Common.{refl, sym, ◌∙◌, ap}
 use Rattle.std.specs.Prelude.{position, option_copied}
 use Rattle.std.proofs.lemmas.Option.{slice_get_read}
-use Rattle.mount_core.specs.Journal.{is_reply_to}
-use Rattle.mount_core.proofs.Places.{reply_to-nowhere, reply_to-there}
-use Rattle.mount_core.proofs.journal.Journal.reply_to.Goals as goal
+use Rattle.job_table.specs.Journal.{is_reply_to}
+use Rattle.job_table.proofs.Places.{reply_to-nowhere, reply_to-there}
+use Rattle.job_table.proofs.journal.Journal.reply_to.Goals as goal
 
 pub returns-in_err-place : goal.returns-in_err-place
 returns-in_err-place c =

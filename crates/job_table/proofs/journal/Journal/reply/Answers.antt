@@ -1,9 +1,9 @@
 use Rattle.std.proofs.Common.{◌≡◌, true, sym, ap, ◌∙◌, subst, length}
 use Rattle.mount_model.specs.Run.{is_among}
-use Rattle.mount_core.specs.Journal.{Journaled, place_in}
-use Rattle.mount_core.proofs.Known.{known-get}
-use Rattle.mount_core.proofs.Places.{noted-push}
-use Rattle.mount_core.proofs.journal.Journal.reply.Goals as goal
+use Rattle.job_table.specs.Journal.{Journaled, place_in}
+use Rattle.job_table.proofs.Known.{known-get}
+use Rattle.job_table.proofs.Places.{noted-push}
+use Rattle.job_table.proofs.journal.Journal.reply.Goals as goal
 
 pub note_place-requires : goal.note_place-requires
 note_place-requires c = known-get c.args.reply.line c.self.inside.places.entries ∙ subst (λ (w : Journaled). is_among c.args.reply.line w.known ≡ true) (sym c.self.view_is) c.requires.known

@@ -1,6 +1,6 @@
 -- The new job goes to the end of both.
 use Rattle.job_table.proofs.Entries.{adds_one, keeps_more, keeps_undone}
-use Rattle.job_table.proofs.jobs.Jobs.ask.Goals as goal
+use Rattle.job_table.proofs.jobs.Jobs.add.Goals as goal
 
 pub invariant_of-self-in-Err-insert : goal.invariant_of-self-in-Err-insert
 invariant_of-self-in-Err-insert c =
