@@ -1,0 +1,4 @@
+pub mod Asks
+pub mod Buffered
+pub mod Refusal
+pub mod Sound

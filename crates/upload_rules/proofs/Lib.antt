@@ -1,0 +1,5 @@
+pub mod Due
+pub mod Parts
+pub mod Life
+pub mod Place
+pub mod Once
