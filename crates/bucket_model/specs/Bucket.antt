@@ -1,29 +1,42 @@
 -- A bucket's content, what one call answers, and what it leaves.
-use Rattle.std.specs.Prelude.{◌≡◌, ℕ, ◌-◌, List, [], ◌∷◌, ◌++◌, length, find, nat_eq, nat_le, ◌&&◌, Bool, true, false, if◌then◌else◌, Option, Some, None, IsSome, option_map}
+use Rattle.std.specs.Prelude.{◌≡◌, ℕ, zero, suc, ◌+◌, ◌-◌, List, [], ◌∷◌, ◌++◌, length, find, nat_eq, nat_le, ◌&&◌, ◌==◌, Bool, true, false, if◌then◌else◌, Option, Some, None, IsSome, option_map}
 use Rattle.std.specs.Ordering.{nat_cmp}
 use Rattle.std.specs.Cmp.Lexicographic.{slice_cmp, pointwise}
 use Rattle.std.specs.List.{starts_with, slice_range}
 use Rattle.std.specs.FinMap as map
 use Rattle.bucket_model.specs.declared.call.Call.{Call}
-use Rattle.bucket_model.specs.declared.call.Call.TheVariants.{Head, Probe, Get, Delete, Put}
+use Rattle.bucket_model.specs.declared.call.Call.TheVariants.{Head, Probe, Get, Delete, Put, Create, Part, Complete, Abort}
 use Rattle.bucket_model.specs.declared.answer.Answer.{Answer}
 use Rattle.bucket_model.specs.declared.answer.Answer.TheVariants as answer
 use Rattle.bucket_model.specs.declared.answer.Brief.{Brief}
-use Rattle.bucket_model.specs.declared.answer.Brief.TheVariants.{Found, Missing, Yes, No, Bytes, Changed, Gone, Made, Fault, NoMemory}
+use Rattle.bucket_model.specs.declared.answer.Brief.TheVariants.{Found, Missing, Yes, No, Bytes, Changed, Gone, Made, Upload, Stored, NoUpload, Fault, NoMemory}
 use Rattle.bucket_model.specs.declared.history.Object.{Object}
 use Rattle.bucket_model.specs.declared.history.Name.{Name}
-use Rattle.bucket_model.specs.declared.history.Name.TheVariants.{Version}
+use Rattle.bucket_model.specs.declared.history.Name.TheVariants as name
 use Rattle.bucket_model.specs.declared.history.Logged.{Logged}
 
--- keys with their objects
+-- the parts of an upload, by their numbers
+abbrev pub Parts : Type 0
+Parts = map.FinMap nat_cmp (List ℕ)
+
+-- an upload that is neither complete nor given up: the key that it is for, and its parts so far
+pub record Staged : Type 0 where
+  pub key : List ℕ
+  pub parts : Parts
+
+-- keys with their objects, and uploads by their ids. Of an upload nothing shows under its key.
 pub record BucketState : Type 0 where
   pub objects : map.FinMap (slice_cmp nat_cmp) Object
+  pub uploads : map.FinMap nat_cmp Staged
 
 abbrev pub empty_bucket : BucketState
-empty_bucket = record { objects = map.empty }
+empty_bucket = record { objects = map.empty; uploads = map.empty }
 
 abbrev pub object_at : BucketState → List ℕ → Option Object
 object_at state key = map.get state.objects key
+
+abbrev pub upload_at : BucketState → ℕ → Option Staged
+upload_at state upload = map.get state.uploads upload
 
 -- the key is the other one followed by `/` and more
 abbrev pub IsBelow : List ℕ → List ℕ → Type 0
@@ -46,14 +59,7 @@ IsHead state key answer = answer ≡ head_of (object_at state key)
 abbrev pub IsProbe : BucketState → List ℕ → Brief → Type 0
 IsProbe state key Yes = HasBelow state key
 IsProbe state key No = HasBelow state key → ⊥
-IsProbe state key (Found etag size) = ⊥
-IsProbe state key Missing = ⊥
-IsProbe state key (Bytes count) = ⊥
-IsProbe state key Changed = ⊥
-IsProbe state key Gone = ⊥
-IsProbe state key (Made etag) = ⊥
-IsProbe state key Fault = ⊥
-IsProbe state key NoMemory = ⊥
+IsProbe state key other = ⊥
 
 -- GetObject with If-Match gives bytes of the object with this ETag alone
 abbrev pub get_of : List ℕ → ℕ → ℕ → Option Object → Brief
@@ -63,18 +69,44 @@ get_of etag from to (Some object) = if pointwise nat_eq object.etag etag && nat_
 abbrev pub IsGet : BucketState → List ℕ → List ℕ → ℕ → ℕ → Brief → Type 0
 IsGet state key etag from to answer = answer ≡ get_of etag from to (object_at state key)
 
--- a put makes an object with a new ETag
-abbrev pub IsPut : Brief → Type 0
-IsPut (Made etag) = Unit {0}
-IsPut (Found etag size) = ⊥
-IsPut Missing = ⊥
-IsPut Yes = ⊥
-IsPut No = ⊥
-IsPut (Bytes count) = ⊥
-IsPut Changed = ⊥
-IsPut Gone = ⊥
-IsPut Fault = ⊥
-IsPut NoMemory = ⊥
+-- a new object has a new ETag
+abbrev pub IsMade : Brief → Type 0
+IsMade (Made etag) = Unit {0}
+IsMade other = ⊥
+
+-- CreateMultipartUpload gives an id
+abbrev pub IsCreate : Brief → Type 0
+IsCreate (Upload upload) = Unit {0}
+IsCreate other = ⊥
+
+-- what is answered about an upload that is staged, and about one that isn't
+abbrev pub staged_or_not : Brief → Option Staged → Brief
+staged_or_not answer None = NoUpload
+staged_or_not answer (Some staged) = answer
+
+-- both joined, where both are there
+abbrev pub joined : Option (List ℕ) → Option (List ℕ) → Option (List ℕ)
+joined None rest = None
+joined (Some bytes) rest = option_map (λ more. bytes ++ more) rest
+
+-- the parts from this number on, as many as these, joined by number, where each of them is there
+abbrev pub joined_from : Parts → ℕ → ℕ → Option (List ℕ)
+joined_from parts number zero = Some []
+joined_from parts number (suc more) = joined (map.get parts number) (joined_from parts (number + 1) more)
+
+-- an object that an upload makes: its key and its bytes
+pub record Whole : Type 0 where
+  pub key : List ℕ
+  pub bytes : List ℕ
+
+-- what the upload makes, where it is staged and the numbers of its parts are just those from 1 to the count
+abbrev pub whole_of : ℕ → Option Staged → Option Whole
+whole_of count None = None
+whole_of count (Some staged) = if map.len staged.parts == count then option_map (λ bytes. record { key = staged.key; bytes = bytes }) (joined_from staged.parts 1 count) else None
+
+abbrev pub IsComplete : Option Whole → Brief → Type 0
+IsComplete None answer = answer ≡ NoUpload
+IsComplete (Some whole) answer = IsMade answer
 
 -- the bucket in this state answers the call so, where it doesn't fail
 abbrev pub IsAnswer : BucketState → Call → Brief → Type 0
@@ -82,7 +114,11 @@ IsAnswer state (Head key) answer = IsHead state key answer
 IsAnswer state (Probe key) answer = IsProbe state key answer
 IsAnswer state (Get key etag from to) answer = IsGet state key etag from to answer
 IsAnswer state (Delete key) answer = answer ≡ Gone
-IsAnswer state (Put key bytes) answer = IsPut answer
+IsAnswer state (Put key bytes) answer = IsMade answer
+IsAnswer state (Create key) answer = IsCreate answer
+IsAnswer state (Part upload number bytes) answer = answer ≡ staged_or_not Stored (upload_at state upload)
+IsAnswer state (Complete upload parts) answer = IsComplete (whole_of parts (upload_at state upload)) answer
+IsAnswer state (Abort upload) answer = answer ≡ staged_or_not Gone (upload_at state upload)
 
 -- an object as it was at some time
 pub record ObjectVersion : Type 0 where
@@ -90,36 +126,65 @@ pub record ObjectVersion : Type 0 where
   pub etag : List ℕ
   pub bytes : List ℕ
 
--- the version that an entry made, if any
+-- the version of these bytes at this key, where a version was made
+abbrev pub version_named : Option Name → Whole → Option ObjectVersion
+version_named None whole = None
+version_named (Some (name.Version etag)) whole = Some (record { key = whole.key; etag = etag; bytes = whole.bytes })
+version_named (Some (name.Upload upload)) whole = None
+
+abbrev pub version_completed : Option Name → Option Whole → Option ObjectVersion
+version_completed made None = None
+version_completed made (Some whole) = version_named made whole
+
+-- the version that an entry made, if any: a put of its bytes, and a complete of those of the parts
 abbrev pub version_made : BucketState → Logged → Option ObjectVersion
-version_made state logged = by_call logged.entry.call logged.made
+version_made state logged = by_call logged.entry.call
   where
-    by_call : Call → Option Name → Option ObjectVersion
-    by_call (Put key bytes) (Some (Version etag)) = Some (record { key = key; etag = etag; bytes = bytes })
-    by_call (Put key bytes) None = None
-    by_call (Head key) made = None
-    by_call (Probe key) made = None
-    by_call (Get key etag from to) made = None
-    by_call (Delete key) made = None
+    by_call : Call → Option ObjectVersion
+    by_call (Put key bytes) = version_named logged.made (record { key = key; bytes = bytes })
+    by_call (Complete upload parts) = version_completed logged.made (whole_of parts (upload_at state upload))
+    by_call other = None
 
 abbrev pub with_version : BucketState → Option ObjectVersion → BucketState
 with_version state None = state
-with_version state (Some v) = record { objects = map.insert state.objects v.key (record { etag = v.etag; bytes = v.bytes }) }
+with_version state (Some v) = record { objects = map.insert state.objects v.key (record { etag = v.etag; bytes = v.bytes }); uploads = state.uploads }
 
 abbrev pub without_object : BucketState → List ℕ → BucketState
-without_object state key = record { objects = map.remove state.objects key }
+without_object state key = record { objects = map.remove state.objects key; uploads = state.uploads }
 
--- what an entry leaves: a version that it made, or no object where it deleted
-abbrev pub after : BucketState → Logged → BucketState
-after state logged = by_call logged.entry.call logged.entry.took
+-- a new upload has no parts
+abbrev pub with_upload : BucketState → List ℕ → Option Name → BucketState
+with_upload state key (Some (name.Upload upload)) = record { objects = state.objects; uploads = map.insert state.uploads upload (record { key = key; parts = map.empty }) }
+with_upload state key other = state
+
+-- a part replaces an earlier one of its number
+abbrev pub with_part : BucketState → ℕ → ℕ → List ℕ → Option Staged → BucketState
+with_part state upload number bytes None = state
+with_part state upload number bytes (Some staged) = record { objects = state.objects; uploads = map.insert state.uploads upload (record { key = staged.key; parts = map.insert staged.parts number bytes }) }
+
+abbrev pub without_upload : BucketState → ℕ → BucketState
+without_upload state upload = record { objects = state.objects; uploads = map.remove state.uploads upload }
+
+-- the upload that made the object is gone
+abbrev pub completed : BucketState → ℕ → Option ObjectVersion → BucketState
+completed state upload None = state
+completed state upload (Some v) = with_version (without_upload state upload) (Some v)
+
+-- what a call that took effect leaves
+abbrev pub after_call : BucketState → Logged → BucketState
+after_call state logged = by_call logged.entry.call
   where
-    by_call : Call → Bool → BucketState
-    by_call (Delete key) true = without_object state key
-    by_call (Delete key) false = state
-    by_call (Put key bytes) took = with_version state (version_made state logged)
-    by_call (Head key) took = state
-    by_call (Probe key) took = state
-    by_call (Get key etag from to) took = state
+    by_call : Call → BucketState
+    by_call (Delete key) = without_object state key
+    by_call (Put key bytes) = with_version state (version_made state logged)
+    by_call (Create key) = with_upload state key logged.made
+    by_call (Part upload number bytes) = with_part state upload number bytes (upload_at state upload)
+    by_call (Complete upload parts) = completed state upload (version_made state logged)
+    by_call (Abort upload) = without_upload state upload
+    by_call other = state
+
+abbrev pub after : BucketState → Logged → BucketState
+after state logged = if logged.entry.took then after_call state logged else state
 
 -- versions, by key and ETag
 
@@ -137,16 +202,4 @@ slice_at versions key etag from to = option_map (λ bytes. slice_range bytes fro
 -- a get's bytes are those of the version that it asks for
 abbrev pub IsSlice : List ObjectVersion → Call → Answer → Type 0
 IsSlice versions (Get key etag from to) (answer.Bytes bytes) = slice_at versions key etag from to ≡ Some bytes
-IsSlice versions (Get key etag from to) (answer.Found found size) = Unit {0}
-IsSlice versions (Get key etag from to) answer.Missing = Unit {0}
-IsSlice versions (Get key etag from to) answer.Yes = Unit {0}
-IsSlice versions (Get key etag from to) answer.No = Unit {0}
-IsSlice versions (Get key etag from to) answer.Changed = Unit {0}
-IsSlice versions (Get key etag from to) answer.Gone = Unit {0}
-IsSlice versions (Get key etag from to) (answer.Made made) = Unit {0}
-IsSlice versions (Get key etag from to) answer.Fault = Unit {0}
-IsSlice versions (Get key etag from to) answer.NoMemory = Unit {0}
-IsSlice versions (Head key) said = Unit {0}
-IsSlice versions (Probe key) said = Unit {0}
-IsSlice versions (Delete key) said = Unit {0}
-IsSlice versions (Put key bytes) said = Unit {0}
+IsSlice versions called said = Unit {0}

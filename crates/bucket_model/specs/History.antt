@@ -1,15 +1,15 @@
 -- A bucket's history, and what makes it legal.
-use Rattle.std.specs.Prelude.{◌≡◌, ◌≢◌, List, [], ◌∷◌, ◌++◌, fold, Contains, Bool, true, false, Option, Some, None, option_to_list}
+use Rattle.std.specs.Prelude.{◌≡◌, ◌≢◌, ℕ, List, [], ◌∷◌, ◌++◌, fold, Contains, Bool, true, false, Option, Some, None, option_to_list}
 use Rattle.bucket_model.specs.declared.call.Call.{Call}
-use Rattle.bucket_model.specs.declared.call.Call.TheVariants.{Head, Probe, Get, Delete, Put}
+use Rattle.bucket_model.specs.declared.call.Call.TheVariants.{Head, Probe, Get, Delete, Put, Create, Part, Complete, Abort}
 use Rattle.bucket_model.specs.declared.answer.Brief.{Brief}
-use Rattle.bucket_model.specs.declared.answer.Brief.TheVariants.{Found, Missing, Yes, No, Bytes, Changed, Gone, Made, Fault, NoMemory}
+use Rattle.bucket_model.specs.declared.answer.Brief.TheVariants.{Made, Upload, Fault, NoMemory}
 use Rattle.bucket_model.specs.declared.history.Name.{Name}
-use Rattle.bucket_model.specs.declared.history.Name.TheVariants.{Version}
+use Rattle.bucket_model.specs.declared.history.Name.TheVariants as name
 use Rattle.bucket_model.specs.declared.history.Logged.{Logged}
 use Rattle.bucket_model.specs.Along.{Along}
 use Rattle.bucket_model.specs.Answers.{MayBeMade}
-use Rattle.bucket_model.specs.Bucket.{BucketState, empty_bucket, ObjectVersion, IsAnswer, version_made, after}
+use Rattle.bucket_model.specs.Bucket.{BucketState, empty_bucket, ObjectVersion, Whole, IsAnswer, whole_of, upload_at, version_made, after}
 
 -- the state after a history, from an empty bucket
 abbrev pub replay : List Logged → BucketState
@@ -27,48 +27,53 @@ versions_of log = versions_from empty_bucket log
 abbrev pub MayAnswer : BucketState → Call → Brief → Type 0
 MayAnswer state call Fault = Unit {0}
 MayAnswer state call NoMemory = ⊥
-MayAnswer state call (Found etag size) = IsAnswer state call (Found etag size)
-MayAnswer state call Missing = IsAnswer state call Missing
-MayAnswer state call Yes = IsAnswer state call Yes
-MayAnswer state call No = IsAnswer state call No
-MayAnswer state call (Bytes count) = IsAnswer state call (Bytes count)
-MayAnswer state call Changed = IsAnswer state call Changed
-MayAnswer state call Gone = IsAnswer state call Gone
-MayAnswer state call (Made etag) = IsAnswer state call (Made etag)
+MayAnswer state call answer = IsAnswer state call answer
 
--- a put that took effect made a version: the one that it told, or one that a fault hid
-abbrev pub MakesVersion : Bool → Brief → Option Name → Type 0
-MakesVersion true (Made etag) made = made ≡ Some (Version etag)
-MakesVersion true (Found etag size) made = made ≡ None
-MakesVersion true Missing made = made ≡ None
-MakesVersion true Yes made = made ≡ None
-MakesVersion true No made = made ≡ None
-MakesVersion true (Bytes count) made = made ≡ None
-MakesVersion true Changed made = made ≡ None
-MakesVersion true Gone made = made ≡ None
-MakesVersion true Fault made = made ≢ None
-MakesVersion true NoMemory made = made ≡ None
-MakesVersion false answer made = made ≡ None
+-- an object that was made has a version: the one that was told, or one that a fault hid
+abbrev pub MakesVersion : Brief → Option Name → Type 0
+MakesVersion (Made etag) made = made ≡ Some (name.Version etag)
+MakesVersion Fault made = (etag : List ℕ) × (made ≡ Some (name.Version etag))
+MakesVersion other made = made ≡ None
 
--- no other call makes one
-abbrev pub MakesName : Call → Bool → Brief → Option Name → Type 0
-MakesName (Put key bytes) took answer made = MakesVersion took answer made
-MakesName (Head key) took answer made = made ≡ None
-MakesName (Probe key) took answer made = made ≡ None
-MakesName (Get key etag from to) took answer made = made ≡ None
-MakesName (Delete key) took answer made = made ≡ None
+-- an upload that was created has an id: the one that was told, or one that a fault hid
+abbrev pub MakesUpload : Brief → Option Name → Type 0
+MakesUpload (Upload upload) made = made ≡ Some (name.Upload upload)
+MakesUpload Fault made = (upload : ℕ) × (made ≡ Some (name.Upload upload))
+MakesUpload other made = made ≡ None
+
+-- an upload makes an object where its parts are there
+abbrev pub MakesWhole : Option Whole → Brief → Option Name → Type 0
+MakesWhole None answer made = made ≡ None
+MakesWhole (Some whole) answer made = MakesVersion answer made
+
+-- what a call makes that took effect
+abbrev pub Makes : BucketState → Call → Brief → Option Name → Type 0
+Makes state (Put key bytes) answer made = MakesVersion answer made
+Makes state (Create key) answer made = MakesUpload answer made
+Makes state (Complete upload parts) answer made = MakesWhole (whole_of parts (upload_at state upload)) answer made
+Makes state other answer made = made ≡ None
+
+-- a call without effect makes nothing
+abbrev pub MakesName : BucketState → Call → Bool → Brief → Option Name → Type 0
+MakesName state call true answer made = Makes state call answer made
+MakesName state call false answer made = made ≡ None
 
 -- equal ETags of one key mean equal bytes
 abbrev pub IsOneContent : List ObjectVersion → ObjectVersion → Type 0
 IsOneContent versions new = (v : ObjectVersion) → Contains versions v → v.key ≡ new.key → v.etag ≡ new.etag → v.bytes ≡ new.bytes
+
+-- no earlier upload has this id
+abbrev pub IsNewUpload : List Logged → ℕ → Type 0
+IsNewUpload past upload = (logged : Logged) → Contains past logged → logged.made ≢ Some (name.Upload upload)
 
 -- the entry is one that the bucket may have logged behind these
 pub record IsLegalEntry (past : List Logged) (logged : Logged) : Type 0 where
   pub may : MayBeMade logged.entry.call
   pub answered : MayAnswer (replay past) logged.entry.call logged.entry.answer
   pub took : logged.entry.answer ≢ Fault → logged.entry.took ≡ true
-  pub made : MakesName logged.entry.call logged.entry.took logged.entry.answer logged.made
+  pub made : MakesName (replay past) logged.entry.call logged.entry.took logged.entry.answer logged.made
   pub one_content : (new : ObjectVersion) → version_made (replay past) logged ≡ Some new → IsOneContent (versions_of past) new
+  pub new_upload : (upload : ℕ) → logged.made ≡ Some (name.Upload upload) → IsNewUpload past upload
 
 abbrev pub IsLegalHistory : List Logged → Type 0
 IsLegalHistory log = Along IsLegalEntry (λ past logged. past ++ logged ∷ []) [] log
@@ -80,8 +85,6 @@ pub record History : Type 0 where
 
 -- a change of an object that others may make: a put or a delete
 abbrev pub IsChange : Call → Type 0
-IsChange (Head key) = ⊥
-IsChange (Probe key) = ⊥
-IsChange (Get key etag from to) = ⊥
 IsChange (Delete key) = Unit {0}
 IsChange (Put key bytes) = Unit {0}
+IsChange other = ⊥

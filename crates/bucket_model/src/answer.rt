@@ -23,6 +23,12 @@ pub enum Answer {
     Gone,
     /// The new object's ETag.
     Made(ETag),
+    /// The id of the new upload.
+    Upload(u64),
+    /// The part is stored.
+    Stored,
+    /// No such upload is staged, or its parts aren't those that were named.
+    NoUpload,
     /// The bucket failed. The call may have taken effect or not.
     Fault,
     /// There was no memory. The call took no effect.
@@ -40,6 +46,9 @@ pub enum Brief {
     Changed,
     Gone,
     Made(ETag),
+    Upload(u64),
+    Stored,
+    NoUpload,
     Fault,
     NoMemory,
 }
@@ -63,6 +72,9 @@ impl Answer {
             Answer::Changed => Brief::Changed,
             Answer::Gone => Brief::Gone,
             Answer::Made(etag) => Brief::Made(etag.copy()),
+            Answer::Upload(upload) => Brief::Upload(*upload),
+            Answer::Stored => Brief::Stored,
+            Answer::NoUpload => Brief::NoUpload,
             Answer::Fault => Brief::Fault,
             Answer::NoMemory => Brief::NoMemory,
         }
@@ -86,6 +98,9 @@ impl Brief {
             Brief::Changed => Brief::Changed,
             Brief::Gone => Brief::Gone,
             Brief::Made(etag) => Brief::Made(etag.copy()),
+            Brief::Upload(upload) => Brief::Upload(*upload),
+            Brief::Stored => Brief::Stored,
+            Brief::NoUpload => Brief::NoUpload,
             Brief::Fault => Brief::Fault,
             Brief::NoMemory => Brief::NoMemory,
         }

@@ -32,6 +32,26 @@ pub enum Call {
         key: Key,
         bytes: Bytes,
     },
+    /// CreateMultipartUpload: a new upload of an object for the key, without parts.
+    Create {
+        key: Key,
+    },
+    /// UploadPart: the part of this number, from 1 to 10,000, replaces an earlier one.
+    Part {
+        upload: u64,
+        number: u32,
+        bytes: Bytes,
+    },
+    /// CompleteMultipartUpload: the upload's object is made of its parts, joined by number, where their numbers are
+    /// just those from 1 to `parts`, and the upload is gone. `parts` is at least 1.
+    Complete {
+        upload: u64,
+        parts: u32,
+    },
+    /// AbortMultipartUpload: the upload is gone and never shows.
+    Abort {
+        upload: u64,
+    },
 }
 
 impl Call {
@@ -64,6 +84,23 @@ impl Call {
                 key: key.copy(alloc)?,
                 bytes: bytes.clone()?,
             }),
+            Call::Create { key } => Ok(Call::Create {
+                key: key.copy(alloc)?,
+            }),
+            Call::Part {
+                upload,
+                number,
+                bytes,
+            } => Ok(Call::Part {
+                upload: *upload,
+                number: *number,
+                bytes: bytes.clone()?,
+            }),
+            Call::Complete { upload, parts } => Ok(Call::Complete {
+                upload: *upload,
+                parts: *parts,
+            }),
+            Call::Abort { upload } => Ok(Call::Abort { upload: *upload }),
         }
     }
 }

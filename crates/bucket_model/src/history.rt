@@ -23,6 +23,8 @@ pub struct HEntry {
 pub enum Name {
     /// The ETag of an object version.
     Version(ETag),
+    /// The id of an upload.
+    Upload(u64),
 }
 
 /// An entry with the name that it made, if any.

@@ -1,18 +1,19 @@
 -- A log that mirrors an honest store's history goes on to do so.
 use Rattle.std.proofs.Common.{◌≡◌, ◌≢◌, ℕ, Bool, true, false, List, [], ◌∷◌, ◌++◌, Option, Some, None, refl, sym, ap, ◌∙◌, subst, inl, inr, append-nil, append_assoc}
 use Rattle.std.specs.Option.{IfSome, OnSome, option_to_list}
+use Rattle.std.proofs.lemmas.List.Elements.{Contains-append_left, Contains-push, Contains-push_cases}
 use Rattle.bucket_model.specs.declared.call.Call.{Call}
-use Rattle.bucket_model.specs.declared.call.Call.TheVariants.{Head, Probe, Get, Delete, Put}
+use Rattle.bucket_model.specs.declared.call.Call.TheVariants.{Head, Probe, Get, Delete, Put, Create, Part, Complete, Abort}
 use Rattle.bucket_model.specs.declared.answer.Answer.{Answer}
 use Rattle.bucket_model.specs.declared.answer.Brief.{Brief}
-use Rattle.bucket_model.specs.declared.answer.Brief.TheVariants.{Made, Fault, NoMemory}
+use Rattle.bucket_model.specs.declared.answer.Brief.TheVariants.{Made, Upload, NoUpload, Fault, NoMemory}
 use Rattle.bucket_model.specs.declared.history.Name.{Name}
-use Rattle.bucket_model.specs.declared.history.Name.TheVariants.{Version}
+use Rattle.bucket_model.specs.declared.history.Name.TheVariants as name
 use Rattle.bucket_model.specs.declared.history.Logged.{Logged}
 use Rattle.bucket_model.specs.Along.{Along}
-use Rattle.bucket_model.specs.Answers.{MayBeMade, brief_of, fits, is_answer_of_get, is_counted}
-use Rattle.bucket_model.specs.Bucket.{BucketState, ObjectVersion, after, version_made, with_version, without_object}
-use Rattle.bucket_model.specs.History.{History, IsLegalEntry, IsLegalHistory, IsOneContent, MakesName, MakesVersion, MayAnswer, replay, versions_of}
+use Rattle.bucket_model.specs.Answers.{MayBeMade, brief_of, fits, is_answer_of, is_counted}
+use Rattle.bucket_model.specs.Bucket.{BucketState, IsComplete, ObjectVersion, Whole, after, upload_at, version_completed, version_made, whole_of}
+use Rattle.bucket_model.specs.History.{History, IsLegalEntry, IsLegalHistory, IsNewUpload, IsOneContent, Makes, MakesWhole, MayAnswer, replay, versions_of}
 use Rattle.mem_store.proofs.Replay.{replay_push, versions_push, legal_push}
 use Rattle.store_trait.specs.Told.{AddsFor, Tells}
 use Rattle.fault_store.specs.declared.faulty.Faulty.{Faulty}
@@ -36,106 +37,126 @@ legal_last log logged legal = last_from [] log logged legal
 abbrev logged_as : Call → Brief → Bool → Option Name → Logged
 logged_as asked answer took made = record { entry = record { call = asked; answer = answer; took = took }; made = made }
 
--- what an entry makes and leaves goes by its call, its effect and the name that it made
-abbrev version_by : Call → Option Name → Option ObjectVersion
-version_by (Put key bytes) (Some (Version etag)) = Some (record { key = key; etag = etag; bytes = bytes })
-version_by (Put key bytes) None = None
-version_by (Head key) made = None
-version_by (Probe key) made = None
-version_by (Get key etag from to) made = None
-version_by (Delete key) made = None
+-- what an entry makes and leaves goes by its call, its effect and the name that it made, whatever was answered
+same_version : (state : BucketState) (asked : Call) (answer answer' : Brief) (took : Bool) (made : Option Name) → version_made state (logged_as asked answer took made) ≡ version_made state (logged_as asked answer' took made)
+same_version state (Put key bytes) answer answer' took made = refl
+same_version state (Complete upload parts) answer answer' took made = refl
+same_version state asked answer answer' took made = refl
 
-version_is : (state : BucketState) (asked : Call) (answer : Brief) (took : Bool) (made : Option Name) → version_made state (logged_as asked answer took made) ≡ version_by asked made
-version_is state (Put key bytes) answer took (Some (Version etag)) = refl
-version_is state (Put key bytes) answer took None = refl
-version_is state (Head key) answer took made = refl
-version_is state (Probe key) answer took made = refl
-version_is state (Get key etag from to) answer took made = refl
-version_is state (Delete key) answer took made = refl
+same_after : (state : BucketState) (asked : Call) (answer answer' : Brief) (took : Bool) (made : Option Name) → after state (logged_as asked answer took made) ≡ after state (logged_as asked answer' took made)
+same_after state asked answer answer' false made = refl
+same_after state (Delete key) answer answer' true made = refl
+same_after state (Put key bytes) answer answer' true made = refl
+same_after state (Create key) answer answer' true made = refl
+same_after state (Part upload number bytes) answer answer' true made = refl
+same_after state (Complete upload parts) answer answer' true made = refl
+same_after state (Abort upload) answer answer' true made = refl
+same_after state asked answer answer' true made = refl
 
-abbrev after_by : BucketState → Call → Bool → Option Name → BucketState
-after_by state (Delete key) true made = without_object state key
-after_by state (Delete key) false made = state
-after_by state (Put key bytes) took made = with_version state (version_by (Put key bytes) made)
-after_by state (Head key) took made = state
-after_by state (Probe key) took made = state
-after_by state (Get key etag from to) took made = state
+-- without a name no version is made
+none_completed : (whole : Option Whole) → version_completed None whole ≡ None
+none_completed None = refl
+none_completed (Some whole) = refl
 
-after_is : (state : BucketState) (asked : Call) (answer : Brief) (took : Bool) (made : Option Name) → after state (logged_as asked answer took made) ≡ after_by state asked took made
-after_is state (Delete key) answer true made = refl
-after_is state (Delete key) answer false made = refl
-after_is state (Put key bytes) answer took (Some (Version etag)) = refl
-after_is state (Put key bytes) answer took None = refl
-after_is state (Head key) answer took made = refl
-after_is state (Probe key) answer took made = refl
-after_is state (Get key etag from to) answer took made = refl
+none_before : (state : BucketState) (asked : Call) → version_made state (entry_before asked) ≡ None
+none_before state (Put key bytes) = refl
+none_before state (Complete upload parts) = none_completed (whole_of parts (upload_at state upload))
+none_before state asked = refl
 
--- an entry that took no effect leaves nothing
-left_before : (state : BucketState) (asked : Call) → after_by state asked false None ≡ state
-left_before state (Delete key) = refl
-left_before state (Put key bytes) = refl
-left_before state (Head key) = refl
-left_before state (Probe key) = refl
-left_before state (Get key etag from to) = refl
+-- where no answer of the call's kind tells a name
+makes_none : (asked : Call) → ((etag : List ℕ) → is_answer_of asked (Made etag) ≡ false) → ((upload : ℕ) → is_answer_of asked (Upload upload) ≡ false) → (answer : Brief) → fits asked answer ≡ true → made_by answer ≡ None
+makes_none asked versions uploads (Made etag) fit = let never = versions etag in absurd (cc)
+makes_none asked versions uploads (Upload upload) fit = let never = uploads upload in absurd (cc)
+makes_none asked versions uploads answer fit = refl
 
-none_before : (asked : Call) → version_by asked None ≡ None
-none_before (Delete key) = refl
-none_before (Put key bytes) = refl
-none_before (Head key) = refl
-none_before (Probe key) = refl
-none_before (Get key etag from to) = refl
+put_makes : (state : BucketState) (key bytes : List ℕ) (answer : Brief) (made : Option Name) → fits (Put key bytes) answer ≡ true → answer ≢ Fault → Makes state (Put key bytes) answer made → made ≡ made_by answer
+put_makes state key bytes (Made etag) made fit sound makes = makes
+put_makes state key bytes Fault made fit sound makes = absurd (sound refl)
+put_makes state key bytes NoMemory made fit sound makes = makes
+put_makes state key bytes answer made fit sound makes = absurd (cc)
 
-name_before : (asked : Call) → MakesName asked false Fault None
-name_before (Delete key) = refl
-name_before (Put key bytes) = refl
-name_before (Head key) = refl
-name_before (Probe key) = refl
-name_before (Get key etag from to) = refl
+create_makes : (state : BucketState) (key : List ℕ) (answer : Brief) (made : Option Name) → fits (Create key) answer ≡ true → answer ≢ Fault → Makes state (Create key) answer made → made ≡ made_by answer
+create_makes state key (Upload upload) made fit sound makes = makes
+create_makes state key Fault made fit sound makes = absurd (sound refl)
+create_makes state key NoMemory made fit sound makes = makes
+create_makes state key answer made fit sound makes = absurd (cc)
 
--- only a put is answered with a new name
-head_makes_none : (answer : Brief) → fits (Head []) answer ≡ true → made_by answer ≡ None
-head_makes_none (Made etag) fit = absurd (cc)
-head_makes_none answer fit = refl
+-- a complete tells a name where its upload makes an object
+whole_makes : (whole : Option Whole) (etag : List ℕ) (made : Option Name) → IsComplete whole (Made etag) → MakesWhole whole (Made etag) made → made ≡ Some (name.Version etag)
+whole_makes None etag made answered makes = absurd (cc)
+whole_makes (Some whole) etag made answered makes = makes
 
-probe_makes_none : (answer : Brief) → fits (Probe []) answer ≡ true → made_by answer ≡ None
-probe_makes_none (Made etag) fit = absurd (cc)
-probe_makes_none answer fit = refl
+no_upload_makes : (whole : Option Whole) (made : Option Name) → MakesWhole whole NoUpload made → made ≡ None
+no_upload_makes None made makes = makes
+no_upload_makes (Some whole) made makes = makes
 
-get_makes_none : (from to : ℕ) (answer : Brief) → is_answer_of_get from to answer ≡ true → made_by answer ≡ None
-get_makes_none from to (Made etag) fit = absurd (cc)
-get_makes_none from to answer fit = refl
-
-delete_makes_none : (answer : Brief) → fits (Delete []) answer ≡ true → made_by answer ≡ None
-delete_makes_none (Made etag) fit = absurd (cc)
-delete_makes_none answer fit = refl
-
-put_makes : (key bytes : List ℕ) (answer : Brief) (made : Option Name) → fits (Put key bytes) answer ≡ true → answer ≢ Fault → MakesVersion true answer made → made ≡ made_by answer
-put_makes key bytes (Made etag) made fit sound makes = makes
-put_makes key bytes Fault made fit sound makes = absurd (sound refl)
-put_makes key bytes NoMemory made fit sound makes = makes
-put_makes key bytes answer made fit sound makes = absurd (cc)
+complete_makes : (state : BucketState) (upload parts : ℕ) (answer : Brief) (made : Option Name) → fits (Complete upload parts) answer ≡ true → answer ≢ Fault → MayAnswer state (Complete upload parts) answer
+    → Makes state (Complete upload parts) answer made → made ≡ made_by answer
+complete_makes state upload parts (Made etag) made fit sound answered makes = whole_makes (whole_of parts (upload_at state upload)) etag made answered makes
+complete_makes state upload parts NoUpload made fit sound answered makes = no_upload_makes (whole_of parts (upload_at state upload)) made makes
+complete_makes state upload parts Fault made fit sound answered makes = absurd (sound refl)
+complete_makes state upload parts NoMemory made fit sound answered makes = absurd answered
+complete_makes state upload parts answer made fit sound answered makes = absurd (cc)
 
 -- the name in the entry of an answer that is no fault
-name_is : (asked : Call) (answer : Brief) (made : Option Name) → fits asked answer ≡ true → answer ≢ Fault → MakesName asked true answer made → made ≡ made_by answer
-name_is (Put key bytes) answer made fit sound makes = put_makes key bytes answer made fit sound makes
-name_is (Head key) answer made fit sound makes = makes ∙ sym (head_makes_none answer fit)
-name_is (Probe key) answer made fit sound makes = makes ∙ sym (probe_makes_none answer fit)
-name_is (Get key etag from to) answer made fit sound makes = makes ∙ sym (get_makes_none from to answer fit)
-name_is (Delete key) answer made fit sound makes = makes ∙ sym (delete_makes_none answer fit)
+name_is : (state : BucketState) (asked : Call) (answer : Brief) (made : Option Name) → fits asked answer ≡ true → answer ≢ Fault → MayAnswer state asked answer → Makes state asked answer made → made ≡ made_by answer
+name_is state (Put key bytes) answer made fit sound answered makes = put_makes state key bytes answer made fit sound makes
+name_is state (Create key) answer made fit sound answered makes = create_makes state key answer made fit sound makes
+name_is state (Complete upload parts) answer made fit sound answered makes = complete_makes state upload parts answer made fit sound answered makes
+name_is state (Head key) answer made fit sound answered makes = makes ∙ sym (makes_none (Head key) (λ _. refl) (λ _. refl) answer fit)
+name_is state (Probe key) answer made fit sound answered makes = makes ∙ sym (makes_none (Probe key) (λ _. refl) (λ _. refl) answer fit)
+name_is state (Get key etag from to) answer made fit sound answered makes = makes ∙ sym (makes_none (Get key etag from to) (λ _. refl) (λ _. refl) answer fit)
+name_is state (Delete key) answer made fit sound answered makes = makes ∙ sym (makes_none (Delete key) (λ _. refl) (λ _. refl) answer fit)
+name_is state (Part upload number bytes) answer made fit sound answered makes = makes ∙ sym (makes_none (Part upload number bytes) (λ _. refl) (λ _. refl) answer fit)
+name_is state (Abort upload) answer made fit sound answered makes = makes ∙ sym (makes_none (Abort upload) (λ _. refl) (λ _. refl) answer fit)
 
--- a fault hides the name that a put made
-put_hides : (key bytes : List ℕ) (answer : Brief) → fits (Put key bytes) answer ≡ true → answer ≢ Fault → is_counted answer ≡ true → made_by answer ≢ None
-put_hides key bytes (Made etag) fit sound counted = λ none. absurd (cc)
-put_hides key bytes Fault fit sound counted = absurd (sound refl)
-put_hides key bytes NoMemory fit sound counted = absurd (cc)
-put_hides key bytes answer fit sound counted = absurd (cc)
+-- a fault hides the name that was made, or that none was
+put_hides : (state : BucketState) (key bytes : List ℕ) (answer : Brief) → fits (Put key bytes) answer ≡ true → answer ≢ Fault → MayAnswer state (Put key bytes) answer → Makes state (Put key bytes) Fault (made_by answer)
+put_hides state key bytes (Made etag) fit sound answered = (etag, refl)
+put_hides state key bytes Fault fit sound answered = absurd (sound refl)
+put_hides state key bytes NoMemory fit sound answered = absurd answered
+put_hides state key bytes answer fit sound answered = absurd (cc)
 
-name_hidden : (asked : Call) (answer : Brief) → fits asked answer ≡ true → answer ≢ Fault → is_counted answer ≡ true → MakesName asked true Fault (made_by answer)
-name_hidden (Put key bytes) answer fit sound counted = put_hides key bytes answer fit sound counted
-name_hidden (Head key) answer fit sound counted = head_makes_none answer fit
-name_hidden (Probe key) answer fit sound counted = probe_makes_none answer fit
-name_hidden (Get key etag from to) answer fit sound counted = get_makes_none from to answer fit
-name_hidden (Delete key) answer fit sound counted = delete_makes_none answer fit
+create_hides : (state : BucketState) (key : List ℕ) (answer : Brief) → fits (Create key) answer ≡ true → answer ≢ Fault → MayAnswer state (Create key) answer → Makes state (Create key) Fault (made_by answer)
+create_hides state key (Upload upload) fit sound answered = (upload, refl)
+create_hides state key Fault fit sound answered = absurd (sound refl)
+create_hides state key NoMemory fit sound answered = absurd answered
+create_hides state key answer fit sound answered = absurd (cc)
+
+whole_hides : (whole : Option Whole) (etag : List ℕ) → IsComplete whole (Made etag) → MakesWhole whole Fault (Some (name.Version etag))
+whole_hides None etag answered = absurd (cc)
+whole_hides (Some whole) etag answered = (etag, refl)
+
+no_upload_hides : (whole : Option Whole) → IsComplete whole NoUpload → MakesWhole whole Fault None
+no_upload_hides None answered = refl
+no_upload_hides (Some whole) answered = absurd answered
+
+complete_hides : (state : BucketState) (upload parts : ℕ) (answer : Brief) → fits (Complete upload parts) answer ≡ true → answer ≢ Fault → MayAnswer state (Complete upload parts) answer → Makes state (Complete upload parts) Fault (made_by answer)
+complete_hides state upload parts (Made etag) fit sound answered = whole_hides (whole_of parts (upload_at state upload)) etag answered
+complete_hides state upload parts NoUpload fit sound answered = no_upload_hides (whole_of parts (upload_at state upload)) answered
+complete_hides state upload parts Fault fit sound answered = absurd (sound refl)
+complete_hides state upload parts NoMemory fit sound answered = absurd answered
+complete_hides state upload parts answer fit sound answered = absurd (cc)
+
+name_hidden : (state : BucketState) (asked : Call) (answer : Brief) → fits asked answer ≡ true → answer ≢ Fault → MayAnswer state asked answer → Makes state asked answer (made_by answer) → Makes state asked Fault (made_by answer)
+name_hidden state (Put key bytes) answer fit sound answered makes = put_hides state key bytes answer fit sound answered
+name_hidden state (Create key) answer fit sound answered makes = create_hides state key answer fit sound answered
+name_hidden state (Complete upload parts) answer fit sound answered makes = complete_hides state upload parts answer fit sound answered
+name_hidden state asked answer fit sound answered makes = makes
+
+-- an id is new behind one more entry where it is new before and the entry didn't make it
+new_push : (log : List Logged) (own : Logged) (upload : ℕ) → IsNewUpload log upload → own.made ≢ Some (name.Upload upload) → IsNewUpload (log ++ own ∷ []) upload
+new_push log own upload new other = λ logged among.
+    elim (Contains-push_cases log own logged among) [
+      | inl earlier ↦ new logged earlier
+      | inr last ↦ subst (λ (entry : Logged). entry.made ≢ Some (name.Upload upload)) last other
+    ]
+
+new_front : (log : List Logged) (own : Logged) (upload : ℕ) → IsNewUpload (log ++ own ∷ []) upload → IsNewUpload log upload
+new_front log own upload new = λ logged among. new logged (Contains-append_left log (own ∷ []) logged among)
+
+new_last : (log : List Logged) (own : Logged) (upload : ℕ) → IsNewUpload (log ++ own ∷ []) upload → own.made ≢ Some (name.Upload upload)
+new_last log own upload new = new own (Contains-push log own)
 
 -- an entry of the same call, effect and name, behind what is mirrored
 mirrors_push : (asked : Call) (answer answer' : Brief) (took : Bool) (made : Option Name) (log : List Logged) (told : History) → Mirrors log told → IsLegalEntry log (logged_as asked answer took made)
@@ -145,9 +166,10 @@ mirrors_push asked answer answer' took made log told mirrors fine =
     let inner = logged_as asked answer' took made in
     record {
       legal = legal_push log own mirrors.legal fine;
-      state = replay_push log own ∙ after_is (replay log) asked answer took made ∙ ap (λ s. after_by s asked took made) mirrors.state ∙ sym (after_is (replay told.log) asked answer' took made) ∙ sym (replay_push told.log inner);
-      versions = versions_push log own ∙ ap (λ vs. vs ++ option_to_list (version_made (replay log) own)) mirrors.versions ∙ ap (λ o. versions_of told.log ++ option_to_list o) (version_is (replay log) asked answer took made ∙ sym (version_is (replay told.log) asked answer' took made))
-          ∙ sym (versions_push told.log inner);
+      state = replay_push log own ∙ ap (λ state. after state own) mirrors.state ∙ same_after (replay told.log) asked answer answer' took made ∙ sym (replay_push told.log inner);
+      versions = versions_push log own ∙ ap (λ vs. vs ++ option_to_list (version_made (replay log) own)) mirrors.versions
+          ∙ ap (λ o. versions_of told.log ++ option_to_list o) (ap (λ state. version_made state own) mirrors.state ∙ same_version (replay told.log) asked answer answer' took made) ∙ sym (versions_push told.log inner);
+      uploads = λ upload new. new_push log own upload (mirrors.uploads upload (new_front told.log inner upload new)) (new_last told.log inner upload new);
     }
 
 -- an entry that took no effect, behind what is mirrored
@@ -156,15 +178,17 @@ before_is_legal asked log may = record {
   may = may;
   answered = tt;
   took = λ sound. absurd (sound refl);
-  made = name_before asked;
-  one_content = λ new made. let none : version_made (replay log) (entry_before asked) ≡ None = version_is (replay log) asked Fault false None ∙ none_before asked in absurd (cc);
+  made = refl;
+  one_content = λ new made. let none = none_before (replay log) asked in absurd (cc);
+  new_upload = λ upload made. absurd (cc);
 }
 
 pub mirrors_before : (asked : Call) (log : List Logged) (told : History) → MayBeMade asked → Mirrors log told → Mirrors (log ++ entry_before asked ∷ []) told
 mirrors_before asked log told may mirrors = record {
   legal = legal_push log (entry_before asked) mirrors.legal (before_is_legal asked log may);
-  state = replay_push log (entry_before asked) ∙ after_is (replay log) asked Fault false None ∙ left_before (replay log) asked ∙ mirrors.state;
-  versions = versions_push log (entry_before asked) ∙ ap (λ o. versions_of log ++ option_to_list o) (version_is (replay log) asked Fault false None ∙ none_before asked) ∙ append-nil (versions_of log) ∙ mirrors.versions;
+  state = replay_push log (entry_before asked) ∙ mirrors.state;
+  versions = versions_push log (entry_before asked) ∙ ap (λ o. versions_of log ++ option_to_list o) (none_before (replay log) asked) ∙ append-nil (versions_of log) ∙ mirrors.versions;
+  uploads = λ upload new. new_push log (entry_before asked) upload (mirrors.uploads upload new) (λ made. absurd (cc));
 }
 
 same_logged : (a b : Call) (p q : Brief) (s t : Bool) (m n : Option Name) → a ≡ b → p ≡ q → s ≡ t → m ≡ n → logged_as a p s m ≡ logged_as b q t n
@@ -175,44 +199,51 @@ inner_entry : (asked : Call) (answer : Brief) (own : Logged) (log : List Logged)
     → own ≡ entry_after asked answer answer
 inner_entry asked answer own log fit sound asks answers fine =
     let took : own.entry.took ≡ true = fine.took (λ fault. sound (sym answers ∙ fault)) in
-    let makes : MakesName asked true answer own.made = rw (asks, took, answers) at fine.made in
-    same_logged own.entry.call asked own.entry.answer answer own.entry.took true own.made (made_by answer) asks answers took (name_is asked answer own.made fit sound makes)
+    let answered : MayAnswer (replay log) asked answer = rw (asks, answers) at fine.answered in
+    let makes : Makes (replay log) asked answer own.made = rw (asks, took, answers) at fine.made in
+    same_logged own.entry.call asked own.entry.answer answer own.entry.took true own.made (made_by answer) asks answers took (name_is (replay log) asked answer own.made fit sound answered makes)
 
 -- what an entry makes, behind what is mirrored
 same_content : (asked : Call) (told answer : Brief) (log : List Logged) (past : History) → Mirrors log past → IsLegalEntry past.log (entry_after asked answer answer) → (new : ObjectVersion)
     → version_made (replay log) (entry_after asked told answer) ≡ Some new → IsOneContent (versions_of log) new
 same_content asked told answer log past mirrors fine new made =
     let there : version_made (replay past.log) (entry_after asked answer answer) ≡ Some new =
-    version_is (replay past.log) asked answer true (made_by answer) ∙ sym (version_is (replay log) asked told true (made_by answer)) ∙ made in
+    same_version (replay past.log) asked answer told true (made_by answer) ∙ sym (ap (λ state. version_made state (entry_after asked told answer)) mirrors.state) ∙ made in
     subst (λ vs. IsOneContent vs new) (sym mirrors.versions) (fine.one_content new there)
 
 handed_is_legal : (asked : Call) (answer : Brief) (log : List Logged) (past : History) → Mirrors log past → IsLegalEntry past.log (entry_after asked answer answer) → IsLegalEntry log (entry_after asked answer answer)
 handed_is_legal asked answer log past mirrors fine = record {
   may = fine.may;
-  answered = subst (λ s. MayAnswer s asked answer) (sym mirrors.state) fine.answered;
+  answered = subst (λ state. MayAnswer state asked answer) (sym mirrors.state) fine.answered;
   took = λ _. refl;
-  made = fine.made;
+  made = subst (λ state. Makes state asked answer (made_by answer)) (sym mirrors.state) fine.made;
   one_content = same_content asked answer answer log past mirrors fine;
+  new_upload = λ upload made. mirrors.uploads upload (fine.new_upload upload made);
 }
 
-hidden_is_legal : (asked : Call) (answer : Brief) (log : List Logged) (past : History) → fits asked answer ≡ true → answer ≢ Fault → is_counted answer ≡ true → Mirrors log past → IsLegalEntry past.log (entry_after asked answer answer)
-    → IsLegalEntry log (entry_after asked Fault answer)
-hidden_is_legal asked answer log past fit sound counted mirrors fine = record {
+hidden_is_legal : (asked : Call) (answer : Brief) (log : List Logged) (past : History) → fits asked answer ≡ true → answer ≢ Fault → Mirrors log past → IsLegalEntry past.log (entry_after asked answer answer) → IsLegalEntry log (entry_after asked Fault answer)
+hidden_is_legal asked answer log past fit sound mirrors fine = record {
   may = fine.may;
   answered = tt;
   took = λ _. refl;
-  made = name_hidden asked answer fit sound counted;
+  made = subst (λ state. Makes state asked Fault (made_by answer)) (sym mirrors.state) (name_hidden (replay past.log) asked answer fit sound fine.answered fine.made);
   one_content = same_content asked Fault answer log past mirrors fine;
+  new_upload = λ upload made. mirrors.uploads upload (fine.new_upload upload made);
 }
 
-entry_is_legal : (hides : Bool) (asked : Call) (answer : Answer) (log : List Logged) (past : History) → fits asked (brief_of answer) ≡ true → brief_of answer ≢ Fault → is_counted (brief_of answer) ≡ true → Mirrors log past
+entry_is_legal : (hides : Bool) (asked : Call) (answer : Answer) (log : List Logged) (past : History) → fits asked (brief_of answer) ≡ true → brief_of answer ≢ Fault → Mirrors log past
     → IsLegalEntry past.log (entry_after asked (brief_of answer) (brief_of answer)) → IsLegalEntry log (entry_after asked (brief_of (shown true hides answer)) (brief_of answer))
-entry_is_legal true asked answer log past fit sound counted mirrors fine = hidden_is_legal asked (brief_of answer) log past fit sound counted mirrors fine
-entry_is_legal false asked answer log past fit sound counted mirrors fine = handed_is_legal asked (brief_of answer) log past mirrors fine
+entry_is_legal true asked answer log past fit sound mirrors fine = hidden_is_legal asked (brief_of answer) log past fit sound mirrors fine
+entry_is_legal false asked answer log past fit sound mirrors fine = handed_is_legal asked (brief_of answer) log past mirrors fine
 
 -- what is mirrored goes by the log and not by the versions told
 mirrors_log : (log : List Logged) (a b : History) → a.log ≡ b.log → Mirrors log a → Mirrors log b
-mirrors_log log a b is mirrors = record { legal = mirrors.legal; state = mirrors.state ∙ ap replay is; versions = mirrors.versions ∙ ap versions_of is }
+mirrors_log log a b is mirrors = record {
+  legal = mirrors.legal;
+  state = mirrors.state ∙ ap replay is;
+  versions = mirrors.versions ∙ ap versions_of is;
+  uploads = λ upload new. mirrors.uploads upload (subst (λ entries. IsNewUpload entries upload) (sym is) new);
+}
 
 mirrors_reached : (counted hides : Bool) (is_alone : Type 0) (asked : Call) (place : ℕ) (answer : Answer) (old new : List Logged) (was now : History) → is_counted (brief_of answer) ≡ counted → fits asked (brief_of answer) ≡ true
     → brief_of answer ≢ Fault → is_alone → IsLegalHistory now.log → AddsFor counted is_alone asked place (brief_of answer) was now → new ≡ old ++ entries_of counted hides asked answer → Mirrors old was → Mirrors new now
@@ -223,7 +254,7 @@ mirrors_reached true hides is_alone asked place answer old new was now counted f
     let own_is : adds.own ≡ entry_after asked (brief_of answer) (brief_of answer) = inner_entry asked (brief_of answer) adds.own was.log fit sound adds.asks adds.answers last in
     let fine : IsLegalEntry was.log (entry_after asked (brief_of answer) (brief_of answer)) = subst (IsLegalEntry was.log) own_is last in
     let more : Mirrors (old ++ entry_after asked (brief_of (shown true hides answer)) (brief_of answer) ∷ []) (record { log = was.log ++ entry_after asked (brief_of answer) (brief_of answer) ∷ []; versions = was.versions }) =
-    mirrors_push asked (brief_of (shown true hides answer)) (brief_of answer) true (made_by (brief_of answer)) old was mirrors (entry_is_legal hides asked answer old was fit sound counted mirrors fine) in
+    mirrors_push asked (brief_of (shown true hides answer)) (brief_of answer) true (made_by (brief_of answer)) old was mirrors (entry_is_legal hides asked answer old was fit sound mirrors fine) in
     subst (λ log. Mirrors log now) (sym is) (mirrors_log _ (record { log = was.log ++ entry_after asked (brief_of answer) (brief_of answer) ∷ []; versions = was.versions }) now (sym (grown ∙ ap (λ e. was.log ++ e ∷ []) own_is)) more)
 mirrors_reached false hides is_alone asked place answer old new was now counted fit sound alone legal adds is mirrors =
     let same : now.log ≡ was.log = adds.log ∙ ap (λ es. was.log ++ es) (adds.alone alone) ∙ append-nil was.log in

@@ -6,7 +6,7 @@ use Rattle.bucket_model.specs.declared.answer.Answer.TheVariants as said
 use Rattle.bucket_model.specs.declared.answer.Brief.{Brief}
 use Rattle.bucket_model.specs.declared.answer.Brief.TheVariants.{Fault, NoMemory}
 use Rattle.bucket_model.specs.declared.history.Logged.{Logged}
-use Rattle.bucket_model.specs.Answers.{brief_of, is_counted}
+use Rattle.bucket_model.specs.Answers.{brief_of, fits, is_counted}
 use Rattle.bucket_model.specs.History.{History}
 use Rattle.store_trait.specs.Told.{Adds, AddsEntry, AddsFor, AddsNone, AreChanges, KeepsVersions, Tells}
 use Rattle.fault_store.specs.declared.faulty.Faulty.{Faulty}
@@ -92,7 +92,28 @@ reached_longer : (counted hides : Bool) (asked : Call) (answer : Answer) (old ne
 reached_longer true hides asked answer old new counted is counts = longer old new (entry_after asked (brief_of (shown true hides answer)) (brief_of answer)) is
 reached_longer false hides asked answer old new counted is counts = absurd (cc)
 
+-- a fault may come of any call
+kind_shown : (counted hides : Bool) (asked : Call) (answer : Answer) → fits asked (brief_of answer) ≡ true → fits asked (brief_of (shown counted hides answer)) ≡ true
+kind_shown true true asked answer kind = refl
+kind_shown true false asked answer kind = kind
+kind_shown false hides asked answer kind = kind
+
 module _ {S : Type 0} (position : S → ℕ) (history : S → Option History) (faults : S → ℕ) (is_alone never_fails is_honest : S → Type 0) where
+  kind_reaches : (asked : Call) (hides : Bool) (answer : Answer) (old new : Faulty S) → Reaches (IsCalled position history faults is_alone never_fails is_honest asked) asked hides answer old new → fits asked (brief_of answer) ≡ true
+  kind_reaches asked hides answer old new reaches = rw reaches.answer_is (kind_shown (is_counted (brief_of reaches.said)) hides asked reaches.said reaches.called.kind)
+
+  kind_serves : (listed : Option When) (asked : Call) (answer : Answer) (old new : Faulty S) → Serves listed (IsCalled position history faults is_alone never_fails is_honest asked) asked answer old new → fits asked (brief_of answer) ≡ true
+  kind_serves (Some Before) asked answer old new fails = rw fails.answer_is refl
+  kind_serves (Some After) asked answer old new reaches = kind_reaches asked true answer old new reaches
+  kind_serves None asked answer old new reaches = kind_reaches asked false answer old new reaches
+
+  pub kind_served : (asked : Call) (answer : Answer) (old new : Faulty S) → IsServed (IsCalled position history faults is_alone never_fails is_honest asked) asked answer old new → fits asked (brief_of answer) ≡ true
+  kind_served asked answer old new served =
+      elim served.served [
+        | inl short ↦ rw short.answer_is refl
+        | inr serves ↦ kind_serves (when_at old.listed (risen old.calls)) asked answer old new serves
+      ]
+
   tells_reaches : (asked : Call) (hides : Bool) (answer : Answer) (old new : Faulty S) → Reaches (IsCalled position history faults is_alone never_fails is_honest asked) asked hides answer old new
       → Tells (is_alone old.inner) asked (length old.log.items) (brief_of answer) (told_by old.log.items (history old.inner)) (told_by new.log.items (history new.inner))
   tells_reaches asked hides answer old new reaches =

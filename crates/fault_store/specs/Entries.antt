@@ -4,24 +4,17 @@ use Rattle.bucket_model.specs.declared.call.Call.{Call}
 use Rattle.bucket_model.specs.declared.answer.Answer.{Answer}
 use Rattle.bucket_model.specs.declared.answer.Answer.TheVariants as answer
 use Rattle.bucket_model.specs.declared.answer.Brief.{Brief}
-use Rattle.bucket_model.specs.declared.answer.Brief.TheVariants.{Found, Missing, Yes, No, Bytes, Changed, Gone, Made, Fault, NoMemory}
+use Rattle.bucket_model.specs.declared.answer.Brief.TheVariants.{Made, Upload, Fault}
 use Rattle.bucket_model.specs.declared.history.Name.{Name}
-use Rattle.bucket_model.specs.declared.history.Name.TheVariants.{Version}
+use Rattle.bucket_model.specs.declared.history.Name.TheVariants as name
 use Rattle.bucket_model.specs.declared.history.Logged.{Logged}
 use Rattle.bucket_model.specs.Answers.{brief_of}
 
 -- the name that an answer tells of
 abbrev pub made_by : Brief → Option Name
-made_by (Made etag) = Some (Version etag)
-made_by (Found etag size) = None
-made_by Missing = None
-made_by Yes = None
-made_by No = None
-made_by (Bytes count) = None
-made_by Changed = None
-made_by Gone = None
-made_by Fault = None
-made_by NoMemory = None
+made_by (Made etag) = Some (name.Version etag)
+made_by (Upload upload) = Some (name.Upload upload)
+made_by other = None
 
 -- a call that took no effect
 abbrev pub entry_before : Call → Logged

@@ -8,7 +8,7 @@ use Rattle.bucket_model.specs.declared.answer.Answer.{Answer}
 use Rattle.bucket_model.specs.declared.answer.Answer.TheVariants.{Fault, NoMemory}
 use Rattle.bucket_model.specs.declared.history.Logged.{Logged}
 use Rattle.bucket_model.specs.Answers.{brief_of, is_counted}
-use Rattle.bucket_model.specs.History.{History, IsLegalHistory, replay, versions_of}
+use Rattle.bucket_model.specs.History.{History, IsLegalHistory, IsNewUpload, replay, versions_of}
 use Rattle.fault_store.specs.declared.faulty.Faulty.{Faulty}
 use Rattle.fault_store.specs.declared.faulty.When.{When}
 use Rattle.fault_store.specs.declared.faulty.When.TheVariants.{Before, After}
@@ -85,11 +85,12 @@ told_with log told = record { log = log; versions = told.versions }
 abbrev pub told_by : List Logged → Option History → Option History
 told_by log inner = option_map (told_with log) inner
 
--- the log is legal, and leaves what the inner store's history leaves
+-- the log is legal, leaves what the inner store's history leaves, and has no other upload's id
 pub record Mirrors (log : List Logged) (told : History) : Type 0 where
   pub legal : IsLegalHistory log
   pub state : replay log ≡ replay told.log
   pub versions : versions_of log ≡ versions_of told.log
+  pub uploads : (upload : ℕ) → IsNewUpload told.log upload → IsNewUpload log upload
 
 -- the inner store is honest, and where it tells it has no other client, never fails, and is mirrored
 pub record IsHonest (is_honest is_alone never_fails : Type 0) (inner : Option History) (log : List Logged) : Type 0 where

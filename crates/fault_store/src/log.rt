@@ -20,6 +20,7 @@ pub fn name_made(answer: &Answer) -> Option<Name>
 {
     match answer {
         Answer::Made(etag) => Some(Name::Version(etag.copy())),
+        Answer::Upload(upload) => Some(Name::Upload(*upload)),
         _ => None,
     }
 }

@@ -36,6 +36,33 @@ fn deleting(alloc: Global, key: &str) -> Result<Call, Fail>
     Ok(Call::Delete { key })
 }
 
+fn create<S: Store>(store: &mut S, alloc: Global, key: &str) -> Result<(u64, Brief), Fail> {
+    let key = Key::parse(alloc, key)?;
+    let (place, answer) = store.call(Call::Create { key });
+    Ok((place, answer.brief()))
+}
+
+// Stores the upload's only part.
+fn store_part<S: Store>(store: &mut S, alloc: Global, upload: u64) -> Result<(u64, Brief), Fail> {
+    let bytes = Bytes::from_vec(Vec::from_slice(alloc, b"hello")?)?;
+    let (place, answer) = store.call(Call::Part {
+        upload,
+        number: 1,
+        bytes,
+    });
+    Ok((place, answer.brief()))
+}
+
+fn complete<S: Store>(store: &mut S, upload: u64) -> (u64, Brief) {
+    let (place, answer) = store.call(Call::Complete { upload, parts: 1 });
+    (place, answer.brief())
+}
+
+fn abort<S: Store>(store: &mut S, upload: u64) -> (u64, Brief) {
+    let (place, answer) = store.call(Call::Abort { upload });
+    (place, answer.brief())
+}
+
 fn made(etag: &str) -> Result<Brief, Fail> {
     Ok(Brief::Made(ETag::parse(etag)?))
 }
@@ -85,6 +112,62 @@ fn calls_are_numbered_from_one(rt: HostRuntime) -> Result<(), Fail> {
 }
 
 #[test]
+fn a_create_hidden_by_a_fault_stages_an_upload(rt: HostRuntime) -> Result<(), Fail> {
+    let alloc = rt.alloc();
+    let faults = vec![in alloc; (1, When::After)]?;
+    let mut store = Faulty::new(alloc, MemStore::new(alloc)?, faults)?;
+    assert_eq!(rt; create(&mut store, alloc, "a")?, (0, Brief::Fault));
+    assert_eq!(rt; create(&mut store, alloc, "b")?, (1, Brief::Upload(2)));
+    // Nobody was told this id.
+    assert_eq!(rt; store_part(&mut store, alloc, 1)?, (2, Brief::Stored));
+    assert_eq!(rt; complete(&mut store, 1), (3, made("v1")?));
+    assert_eq!(rt; head(&mut store, alloc, "a")?, (4, found("v1")?));
+    assert_eq!(rt; head(&mut store, alloc, "b")?, (5, Brief::Missing));
+    Ok(())
+}
+
+#[test]
+fn a_complete_hidden_by_a_fault_leaves_the_object(rt: HostRuntime) -> Result<(), Fail> {
+    let alloc = rt.alloc();
+    let faults = vec![in alloc; (3, When::After)]?;
+    let mut store = Faulty::new(alloc, MemStore::new(alloc)?, faults)?;
+    assert_eq!(rt; create(&mut store, alloc, "a")?, (0, Brief::Upload(1)));
+    assert_eq!(rt; store_part(&mut store, alloc, 1)?, (1, Brief::Stored));
+    assert_eq!(rt; complete(&mut store, 1), (2, Brief::Fault));
+    assert_eq!(rt; head(&mut store, alloc, "a")?, (3, found("v1")?));
+    assert_eq!(rt; complete(&mut store, 1), (4, Brief::NoUpload));
+    Ok(())
+}
+
+#[test]
+fn a_complete_of_no_upload_leaves_nothing_behind_its_fault(rt: HostRuntime) -> Result<(), Fail> {
+    let alloc = rt.alloc();
+    let faults = vec![in alloc; (1, When::After), (3, When::After)]?;
+    let mut store = Faulty::new(alloc, MemStore::new(alloc)?, faults)?;
+    assert_eq!(rt; complete(&mut store, 1), (0, Brief::Fault));
+    assert_eq!(rt; create(&mut store, alloc, "a")?, (1, Brief::Upload(1)));
+    assert_eq!(rt; store_part(&mut store, alloc, 1)?, (2, Brief::Fault));
+    // The first object, of the part that a fault hid.
+    assert_eq!(rt; complete(&mut store, 1), (3, made("v1")?));
+    assert_eq!(rt; head(&mut store, alloc, "a")?, (4, found("v1")?));
+    Ok(())
+}
+
+#[test]
+fn a_part_that_failed_before_is_not_there(rt: HostRuntime) -> Result<(), Fail> {
+    let alloc = rt.alloc();
+    let faults = vec![in alloc; (2, When::Before), (5, When::After)]?;
+    let mut store = Faulty::new(alloc, MemStore::new(alloc)?, faults)?;
+    assert_eq!(rt; create(&mut store, alloc, "a")?, (0, Brief::Upload(1)));
+    assert_eq!(rt; store_part(&mut store, alloc, 1)?, (1, Brief::Fault));
+    assert_eq!(rt; complete(&mut store, 1), (2, Brief::NoUpload));
+    assert_eq!(rt; head(&mut store, alloc, "a")?, (3, Brief::Missing));
+    assert_eq!(rt; abort(&mut store, 1), (4, Brief::Fault));
+    assert_eq!(rt; abort(&mut store, 1), (5, Brief::NoUpload));
+    Ok(())
+}
+
+#[test]
 fn changes_come_before_their_call(rt: HostRuntime) -> Result<(), Fail> {
     let alloc = rt.alloc();
     let changes = vec![in alloc; (2, deleting(alloc, "a")?), (0, putting(alloc, "b")?)]?;
@@ -120,5 +203,17 @@ fn a_change_can_fail(rt: HostRuntime) -> Result<(), Fail> {
     let mut store = Meddled::new(alloc, inner, changes)?;
     assert_eq!(rt; put(&mut store, alloc, "a")?, (0, made("v1")?));
     assert_eq!(rt; head(&mut store, alloc, "a")?, (2, found("v1")?));
+    Ok(())
+}
+
+#[test]
+fn a_change_comes_amid_an_upload(rt: HostRuntime) -> Result<(), Fail> {
+    let alloc = rt.alloc();
+    let changes = vec![in alloc; (2, putting(alloc, "a")?), (3, deleting(alloc, "a")?)]?;
+    let mut store = Meddled::new(alloc, MemStore::new(alloc)?, changes)?;
+    assert_eq!(rt; create(&mut store, alloc, "a")?, (0, Brief::Upload(1)));
+    assert_eq!(rt; store_part(&mut store, alloc, 1)?, (2, Brief::Stored));
+    assert_eq!(rt; complete(&mut store, 1), (4, made("v2")?));
+    assert_eq!(rt; head(&mut store, alloc, "a")?, (5, found("v2")?));
     Ok(())
 }

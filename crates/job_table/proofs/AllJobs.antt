@@ -1,48 +1,52 @@
 -- The jobs that are ready or out, against all jobs of a run.
 use Rattle.std.proofs.Common.{◌≡◌, ℕ, ◌+◌, ◌<◌, inl, inr, ◌↔◌, Bool, true, false, List, [], ◌∷◌, ◌++◌, length, Some, None, refl, sym, ap, ◌∙◌, arith, eq-eqb}
+use Rattle.std.proofs.lemmas.Grind.{flat_map-append}
 use Rattle.std.proofs.lemmas.Map.Keys.{any_passes_from_place}
 use Rattle.std.specs.List.{AllByRecursion, slice_get}
 use Rattle.std.specs.Prelude.{◌==◌, if◌then◌else◌, length}
 use Rattle.bucket_model.specs.declared.call.Call.{Call}
-use Rattle.mount_model.specs.Heard.{question_of}
-use Rattle.mount_model.specs.State.{Job, JobPhase, Ready, Out, Gone, job_at, change_job}
+use Rattle.mount_model.specs.declared.event.Owner.{Owner}
+use Rattle.mount_model.specs.declared.event.Owner.TheVariants as owner
+use Rattle.mount_model.specs.State.{Job, JobPhase, Ready, Out, Gone, job_at, in_phase, change_job, is_ready_for, ready_for}
 use Rattle.mount_model.specs.Run.{ready, is_among}
-use Rattle.job_table.specs.LiveJobs.{Held, IsReadyIn, IsOutIn, held_at, with_taken, without, ready_numbers, held_of, AreNumbered}
+use Rattle.job_table.specs.LiveJobs.{Held, IsReadyIn, IsOutIn, held_at, with_taken, without, ready_numbers, is_of_writer, ready_of_writer, held_as, held_when, held_of, AreNumbered, purpose_of}
 use Rattle.job_table.proofs.Rising.{IsSame, IsOther, same_or_other, is_other}
 
--- what stands of one job
-abbrev pub held_by : Job → JobPhase → List Held
-held_by job Ready = record { number = job.number; line = job.line; call = Some job.call; question = question_of job.call } ∷ []
-held_by job (Out from) = record { number = job.number; line = job.line; call = None; question = question_of job.call } ∷ []
-held_by job Gone = []
+-- jobs with new ones behind
 
-held_by_cons : (number line : ℕ) (call : Call) (phase : JobPhase) (jobs : List Job) → held_of (record { number = number; line = line; call = call; phase = phase } ∷ jobs) ≡ held_by (record { number = number; line = line; call = call; phase = phase }) phase ++ held_of jobs
-held_by_cons number line call Ready jobs = refl
-held_by_cons number line call (Out from) jobs = refl
-held_by_cons number line call Gone jobs = refl
+pub held_of-append : (jobs more : List Job) → held_of (jobs ++ more) ≡ held_of jobs ++ held_of more
+held_of-append jobs more = flat_map-append (λ (job : Job). held_when job.phase job) jobs more
 
-pub held_of-cons : (job : Job) (jobs : List Job) → held_of (job ∷ jobs) ≡ held_by job job.phase ++ held_of jobs
-held_of-cons job jobs = held_by_cons job.number job.line job.call job.phase jobs
-
--- one more job, which is ready
-pub held_of-push : (jobs : List Job) (number line : ℕ) (call : Call) → held_of (jobs ++ record { number = number; line = line; call = call; phase = Ready } ∷ []) ≡ held_of jobs ++ record { number = number; line = line; call = Some call; question = question_of call } ∷ []
-held_of-push [] number line call = refl
-held_of-push (job ∷ jobs) number line call = by_phase job.phase (held_of-push jobs number line call)
-  where
-    by_phase : (phase : JobPhase) → held_of (jobs ++ record { number = number; line = line; call = call; phase = Ready } ∷ []) ≡ held_of jobs ++ record { number = number; line = line; call = Some call; question = question_of call } ∷ []
-        → held_of (record { number = job.number; line = job.line; call = job.call; phase = phase } ∷ jobs ++ record { number = number; line = line; call = call; phase = Ready } ∷ []) ≡ held_of (record { number = job.number; line = job.line; call = job.call; phase = phase } ∷ jobs) ++ record { number = number; line = line; call = Some call; question = question_of call } ∷ []
-    by_phase Ready rest = ap (λ t. record { number = job.number; line = job.line; call = Some job.call; question = question_of job.call } ∷ t) rest
-    by_phase (Out from) rest = ap (λ t. record { number = job.number; line = job.line; call = None; question = question_of job.call } ∷ t) rest
-    by_phase Gone rest = rest
+-- one more, which is ready
+pub held_of-push : (jobs : List Job) (number line : ℕ) (owner : Owner) (call : Call) → held_of (jobs ++ record { number = number; owner = owner; line = line; call = call; phase = Ready } ∷ []) ≡ held_of jobs ++ record { number = number; owner = owner; line = line; call = Some call; purpose = purpose_of call } ∷ []
+held_of-push jobs number line owner call = held_of-append jobs (record { number = number; owner = owner; line = line; call = call; phase = Ready } ∷ [])
 
 -- the ready jobs
 pub ready_numbers-held_of : (jobs : List Job) → ready_numbers (held_of jobs) ≡ ready jobs
 ready_numbers-held_of [] = refl
 ready_numbers-held_of (job ∷ jobs) = by_phase job.phase (ready_numbers-held_of jobs)
   where
-    by_phase : (phase : JobPhase) → ready_numbers (held_of jobs) ≡ ready jobs
-        → ready_numbers (held_of (record { number = job.number; line = job.line; call = job.call; phase = phase } ∷ jobs)) ≡ ready (record { number = job.number; line = job.line; call = job.call; phase = phase } ∷ jobs)
+    by_phase : (phase : JobPhase) → ready_numbers (held_of jobs) ≡ ready jobs → ready_numbers (held_of (in_phase phase job ∷ jobs)) ≡ ready (in_phase phase job ∷ jobs)
     by_phase Ready rest = ap (λ t. job.number ∷ t) rest
+    by_phase (Out from) rest = rest
+    by_phase Gone rest = rest
+
+-- and those of a writer
+pub ready_of_writer-held_of : (line : ℕ) (jobs : List Job) → ready_of_writer line (held_of jobs) ≡ ready_for line jobs
+ready_of_writer-held_of line [] = refl
+ready_of_writer-held_of line (job ∷ jobs) = by_phase job.phase (ready_of_writer-held_of line jobs)
+  where
+    is_for : (by : Owner) → is_ready_for line (record { number = job.number; owner = by; line = job.line; call = job.call; phase = Ready }) ≡ is_of_writer line by
+    is_for (owner.Line number) = refl
+    is_for (owner.Stream opened) = refl
+    is_for (owner.Writer opened) = refl
+
+    by_test : (b : Bool) → is_of_writer line job.owner ≡ b → ready_of_writer line (held_of jobs) ≡ ready_for line jobs → ready_of_writer line (held_as (Some job.call) job ∷ held_of jobs) ≡ ready_for line (in_phase Ready job ∷ jobs)
+    by_test true e rest = rw (is_for job.owner, e) (ap (λ t. job.number ∷ t) rest)
+    by_test false e rest = rw (is_for job.owner, e) rest
+
+    by_phase : (phase : JobPhase) → ready_of_writer line (held_of jobs) ≡ ready_for line jobs → ready_of_writer line (held_of (in_phase phase job ∷ jobs)) ≡ ready_for line (in_phase phase job ∷ jobs)
+    by_phase Ready rest = by_test (is_of_writer line job.owner) refl rest
     by_phase (Out from) rest = rest
     by_phase Gone rest = rest
 
@@ -62,52 +66,49 @@ change_job-none n first phase (job ∷ jobs) numbered less =
 
 -- the same of what stands of them
 
-by_phase-held_at : (n : ℕ) (job : Job) (phase : JobPhase) (more : List Held) → IsOther n job.number → held_at n (held_by job phase ++ more) ≡ held_at n more
-by_phase-held_at n job Ready more other = rw other.test refl
-by_phase-held_at n job (Out from) more other = rw other.test refl
-by_phase-held_at n job Gone more other = refl
+held_at_other : (n : ℕ) (job : Job) (phase : JobPhase) (more : List Held) → IsOther n job.number → held_at n (held_when phase job ++ more) ≡ held_at n more
+held_at_other n job Ready more other = rw other.test refl
+held_at_other n job (Out from) more other = rw other.test refl
+held_at_other n job Gone more other = refl
 
-pub held_at-other : (n : ℕ) (job : Job) (jobs : List Job) → IsOther n job.number → held_at n (held_of (job ∷ jobs)) ≡ held_at n (held_of jobs)
-held_at-other n job jobs other = rw (held_of-cons job jobs) (by_phase-held_at n job job.phase (held_of jobs) other)
+taken_other : (n : ℕ) (job : Job) (phase : JobPhase) (more : List Held) → IsOther n job.number → with_taken n (held_when phase job ++ more) ≡ held_when phase job ++ with_taken n more
+taken_other n job Ready more other = rw other.test refl
+taken_other n job (Out from) more other = rw other.test refl
+taken_other n job Gone more other = refl
 
-by_phase-taken : (n : ℕ) (job : Job) (phase : JobPhase) (more : List Held) → IsOther n job.number → with_taken n (held_by job phase ++ more) ≡ held_by job phase ++ with_taken n more
-by_phase-taken n job Ready more other = rw other.test refl
-by_phase-taken n job (Out from) more other = rw other.test refl
-by_phase-taken n job Gone more other = refl
-
-by_phase-without : (n : ℕ) (job : Job) (phase : JobPhase) (more : List Held) → IsOther n job.number → without n (held_by job phase ++ more) ≡ held_by job phase ++ without n more
-by_phase-without n job Ready more other = rw other.test refl
-by_phase-without n job (Out from) more other = rw other.test refl
-by_phase-without n job Gone more other = refl
-
-taken_cons : (n : ℕ) (job : Job) (jobs : List Job) → IsOther n job.number → with_taken n (held_of (job ∷ jobs)) ≡ held_by job job.phase ++ with_taken n (held_of jobs)
-taken_cons n job jobs other = rw (held_of-cons job jobs) (by_phase-taken n job job.phase (held_of jobs) other)
-
-without_cons : (n : ℕ) (job : Job) (jobs : List Job) → IsOther n job.number → without n (held_of (job ∷ jobs)) ≡ held_by job job.phase ++ without n (held_of jobs)
-without_cons n job jobs other = rw (held_of-cons job jobs) (by_phase-without n job job.phase (held_of jobs) other)
+without_other : (n : ℕ) (job : Job) (phase : JobPhase) (more : List Held) → IsOther n job.number → without n (held_when phase job ++ more) ≡ held_when phase job ++ without n more
+without_other n job Ready more other = rw other.test refl
+without_other n job (Out from) more other = rw other.test refl
+without_other n job Gone more other = refl
 
 pub taken-none : (n first : ℕ) (jobs : List Job) → AreNumbered first jobs → n < first → with_taken n (held_of jobs) ≡ held_of jobs
 taken-none n first [] numbered less = refl
 taken-none n first (job ∷ jobs) numbered less =
     let here : IsOther n job.number = is_other n job.number (λ e. omega (arith, less, numbered.0, e)) in
-    taken_cons n job jobs here ∙ ap (λ t. held_by job job.phase ++ t) (taken-none n (first + 1) jobs numbered.1 (omega (arith, less))) ∙ sym (held_of-cons job jobs)
+    taken_other n job job.phase (held_of jobs) here ∙ ap (λ t. held_when job.phase job ++ t) (taken-none n (first + 1) jobs numbered.1 (omega (arith, less)))
 
 pub without-none : (n first : ℕ) (jobs : List Job) → AreNumbered first jobs → n < first → without n (held_of jobs) ≡ held_of jobs
 without-none n first [] numbered less = refl
 without-none n first (job ∷ jobs) numbered less =
     let here : IsOther n job.number = is_other n job.number (λ e. omega (arith, less, numbered.0, e)) in
-    without_cons n job jobs here ∙ ap (λ t. held_by job job.phase ++ t) (without-none n (first + 1) jobs numbered.1 (omega (arith, less))) ∙ sym (held_of-cons job jobs)
+    without_other n job job.phase (held_of jobs) here ∙ ap (λ t. held_when job.phase job ++ t) (without-none n (first + 1) jobs numbered.1 (omega (arith, less)))
 
--- one job is done
+-- one job changes
 
-changed_cons : (n : ℕ) (phase : JobPhase) (job : Job) (jobs : List Job) → IsOther n job.number → held_of (change_job n phase (job ∷ jobs)) ≡ held_by job job.phase ++ held_of (change_job n phase jobs)
-changed_cons n phase job jobs other = rw other.test (held_of-cons job (change_job n phase jobs))
+moves : (phase : JobPhase) (job : Job) → held_when phase (in_phase phase job) ≡ held_when phase job
+moves Ready job = refl
+moves (Out from) job = refl
+moves Gone job = refl
 
-changed_here : (n first : ℕ) (phase : JobPhase) (job : Job) (jobs : List Job) → IsSame n job.number → AreNumbered (first + 1) jobs → n < first + 1 → held_of (change_job n phase (job ∷ jobs)) ≡ held_by job phase ++ held_of jobs
-changed_here n first phase job jobs same numbered less =
-    rw (same.test, change_job-none n (first + 1) phase jobs numbered less) (held_by_cons job.number job.line job.call phase jobs)
+changed_here : (n first : ℕ) (phase : JobPhase) (job : Job) (jobs : List Job) → IsSame n job.number → AreNumbered (first + 1) jobs → n < first + 1 → held_of (change_job n phase (job ∷ jobs)) ≡ held_when phase job ++ held_of jobs
+changed_here n first phase job jobs same numbered less = rw (same.test, change_job-none n (first + 1) phase jobs numbered less) (ap (λ t. t ++ held_of jobs) (moves phase job))
 
-without_here : (n : ℕ) (job : Job) (phase : JobPhase) (more : List Held) → IsSame n job.number → without n (held_by job phase ++ more) ≡ without n more
+changed_later : (n : ℕ) (phase : JobPhase) (job : Job) (jobs : List Job) → IsOther n job.number → held_of (change_job n phase (job ∷ jobs)) ≡ held_when job.phase job ++ held_of (change_job n phase jobs)
+changed_later n phase job jobs other = rw other.test refl
+
+-- it is done, or dropped
+
+without_here : (n : ℕ) (job : Job) (phase : JobPhase) (more : List Held) → IsSame n job.number → without n (held_when phase job ++ more) ≡ without n more
 without_here n job Ready more same = rw same.test refl
 without_here n job (Out from) more same = rw same.test refl
 without_here n job Gone more same = refl
@@ -119,18 +120,16 @@ held_of-gone n first (job ∷ jobs) numbered =
       | inl w ↦
           let less : n < first + 1 = omega (arith, w.same, numbered.0) in
           changed_here n first Gone job jobs w numbered.1 less
-          ∙ sym (without-none n (first + 1) jobs numbered.1 less)
-          ∙ sym (without_here n job job.phase (held_of jobs) w)
-          ∙ ap (without n) (sym (held_of-cons job jobs))
+          ∙ sym (without_here n job job.phase (held_of jobs) w ∙ without-none n (first + 1) jobs numbered.1 less)
       | inr w ↦
-          changed_cons n Gone job jobs w
-          ∙ ap (λ t. held_by job job.phase ++ t) (held_of-gone n (first + 1) jobs numbered.1)
-          ∙ sym (without_cons n job jobs w)
+          changed_later n Gone job jobs w
+          ∙ ap (λ t. held_when job.phase job ++ t) (held_of-gone n (first + 1) jobs numbered.1)
+          ∙ sym (without_other n job job.phase (held_of jobs) w)
     ]
 
--- one job is taken
+-- it is taken
 
-taken_here : (n : ℕ) (job : Job) (phase : JobPhase) (from : ℕ) (more : List Held) → IsSame n job.number → phase ≡ Ready → with_taken n (held_by job phase ++ more) ≡ held_by job (Out from) ++ with_taken n more
+taken_here : (n : ℕ) (job : Job) (phase : JobPhase) (from : ℕ) (more : List Held) → IsSame n job.number → phase ≡ Ready → with_taken n (held_when phase job ++ more) ≡ held_when (Out from) job ++ with_taken n more
 taken_here n job Ready from more same is_ready = rw same.test refl
 taken_here n job (Out since) from more same is_ready = absurd (cc)
 taken_here n job Gone from more same is_ready = absurd (cc)
@@ -145,66 +144,63 @@ held_of-out n first from (head ∷ jobs) job numbered stands is_ready =
           let same : head ≡ job = cc in
           let ready_now : head.phase ≡ Ready = ap (λ (j : Job). j.phase) same ∙ is_ready in
           changed_here n first (Out from) head jobs w numbered.1 less
-          ∙ ap (λ t. held_by head (Out from) ++ t) (sym (taken-none n (first + 1) jobs numbered.1 less))
+          ∙ ap (λ t. held_when (Out from) head ++ t) (sym (taken-none n (first + 1) jobs numbered.1 less))
           ∙ sym (taken_here n head head.phase from (held_of jobs) w ready_now)
-          ∙ ap (with_taken n) (sym (held_of-cons head jobs))
       | inr w ↦
           let later : job_at n jobs ≡ Some job = rw w.test at stands in
-          changed_cons n (Out from) head jobs w
-          ∙ ap (λ t. held_by head head.phase ++ t) (held_of-out n (first + 1) from jobs job numbered.1 later is_ready)
-          ∙ sym (taken_cons n head jobs w)
+          changed_later n (Out from) head jobs w
+          ∙ ap (λ t. held_when head.phase head ++ t) (held_of-out n (first + 1) from jobs job numbered.1 later is_ready)
+          ∙ sym (taken_other n head head.phase (held_of jobs) w)
     ]
 
 -- where a job of the run stands
 
-out_here : (n from : ℕ) (head : Job) (phase : JobPhase) (more : List Held) → IsSame n head.number → phase ≡ Out from → held_at n (held_by head phase ++ more) ≡ Some (record { number = n; line = head.line; call = None; question = question_of head.call })
-out_here n from head Ready more same is_out = absurd (cc)
-out_here n from head (Out since) more same is_out = rw (same.test, same.same) refl
-out_here n from head Gone more same is_out = absurd (cc)
+out_here : (n from : ℕ) (job : Job) (phase : JobPhase) (more : List Held) → IsSame n job.number → phase ≡ Out from → held_at n (held_when phase job ++ more) ≡ Some (held_as None job)
+out_here n from job Ready more same is_out = absurd (cc)
+out_here n from job (Out since) more same is_out = rw same.test refl
+out_here n from job Gone more same is_out = absurd (cc)
 
-ready_here : (n : ℕ) (head : Job) (phase : JobPhase) (more : List Held) → IsSame n head.number → phase ≡ Ready → held_at n (held_by head phase ++ more) ≡ Some (record { number = n; line = head.line; call = Some head.call; question = question_of head.call })
-ready_here n head Ready more same is_ready = rw (same.test, same.same) refl
-ready_here n head (Out since) more same is_ready = absurd (cc)
-ready_here n head Gone more same is_ready = absurd (cc)
+ready_here : (n : ℕ) (job : Job) (phase : JobPhase) (more : List Held) → IsSame n job.number → phase ≡ Ready → held_at n (held_when phase job ++ more) ≡ Some (held_as (Some job.call) job)
+ready_here n job Ready more same is_ready = rw same.test refl
+ready_here n job (Out since) more same is_ready = absurd (cc)
+ready_here n job Gone more same is_ready = absurd (cc)
 
-pub held_at-out : (n from : ℕ) (jobs : List Job) (job : Job) → job_at n jobs ≡ Some job → job.phase ≡ Out from → held_at n (held_of jobs) ≡ Some (record { number = n; line = job.line; call = None; question = question_of job.call })
+pub held_at-out : (n from : ℕ) (jobs : List Job) (job : Job) → job_at n jobs ≡ Some job → job.phase ≡ Out from → held_at n (held_of jobs) ≡ Some (held_as None job)
 held_at-out n from [] job stands is_out = absurd (cc)
 held_at-out n from (head ∷ jobs) job stands is_out =
     elim (same_or_other n head.number) [
       | inl w ↦
           let here : Some head ≡ Some job = rw w.test at stands in
           let same : head ≡ job = cc in
-          let out_now : head.phase ≡ Out from = ap (λ (j : Job). j.phase) same ∙ is_out in
-          rw (held_of-cons head jobs, ← same) (out_here n from head head.phase (held_of jobs) w out_now)
+          out_here n from head head.phase (held_of jobs) w (ap (λ (j : Job). j.phase) same ∙ is_out) ∙ ap (λ (j : Job). Some (held_as None j)) same
       | inr w ↦
           let later : job_at n jobs ≡ Some job = rw w.test at stands in
-          held_at-other n head jobs w ∙ held_at-out n from jobs job later is_out
+          held_at_other n head head.phase (held_of jobs) w ∙ held_at-out n from jobs job later is_out
     ]
 
-pub held_at-ready : (n : ℕ) (jobs : List Job) (job : Job) → job_at n jobs ≡ Some job → job.phase ≡ Ready → held_at n (held_of jobs) ≡ Some (record { number = n; line = job.line; call = Some job.call; question = question_of job.call })
+pub held_at-ready : (n : ℕ) (jobs : List Job) (job : Job) → job_at n jobs ≡ Some job → job.phase ≡ Ready → held_at n (held_of jobs) ≡ Some (held_as (Some job.call) job)
 held_at-ready n [] job stands is_ready = absurd (cc)
 held_at-ready n (head ∷ jobs) job stands is_ready =
     elim (same_or_other n head.number) [
       | inl w ↦
           let here : Some head ≡ Some job = rw w.test at stands in
           let same : head ≡ job = cc in
-          let ready_now : head.phase ≡ Ready = ap (λ (j : Job). j.phase) same ∙ is_ready in
-          rw (held_of-cons head jobs, ← same) (ready_here n head head.phase (held_of jobs) w ready_now)
+          ready_here n head head.phase (held_of jobs) w (ap (λ (j : Job). j.phase) same ∙ is_ready) ∙ ap (λ (j : Job). Some (held_as (Some j.call) j)) same
       | inr w ↦
           let later : job_at n jobs ≡ Some job = rw w.test at stands in
-          held_at-other n head jobs w ∙ held_at-ready n jobs job later is_ready
+          held_at_other n head head.phase (held_of jobs) w ∙ held_at-ready n jobs job later is_ready
     ]
 
 pub is_out_in : (n from : ℕ) (jobs : List Job) (job : Job) → job_at n jobs ≡ Some job → job.phase ≡ Out from → IsOutIn n (held_of jobs)
 is_out_in n from jobs job stands is_out = record {
-  job = record { number = n; line = job.line; call = None; question = question_of job.call };
+  job = held_as None job;
   stands = held_at-out n from jobs job stands is_out;
   is_out = refl;
 }
 
 pub is_ready_in : (n : ℕ) (jobs : List Job) (job : Job) → job_at n jobs ≡ Some job → job.phase ≡ Ready → IsReadyIn n (held_of jobs)
 is_ready_in n jobs job stands is_ready = record {
-  job = record { number = n; line = job.line; call = Some job.call; question = question_of job.call };
+  job = held_as (Some job.call) job;
   stands = held_at-ready n jobs job stands is_ready;
   called = job.call;
   waits = refl;
@@ -223,17 +219,17 @@ ready_above n first [] numbered less = refl
 ready_above n first (job ∷ jobs) numbered less =
     by_phase job.phase (is_other n job.number (λ e. omega (arith, less, numbered.0, e))) (ready_above n (first + 1) jobs numbered.1 (omega (arith, less)))
   where
-    by_phase : (phase : JobPhase) → IsOther n job.number → is_among n (ready jobs) ≡ false → is_among n (ready (record { number = job.number; line = job.line; call = job.call; phase = phase } ∷ jobs)) ≡ false
+    by_phase : (phase : JobPhase) → IsOther n job.number → is_among n (ready jobs) ≡ false → is_among n (ready (in_phase phase job ∷ jobs)) ≡ false
     by_phase Ready other rest = rw other.test rest
     by_phase (Out from) other rest = rest
     by_phase Gone other rest = rest
 
-among_here : (n : ℕ) (job : Job) (phase : JobPhase) (jobs : List Job) → is_among n (ready jobs) ≡ false → is_among n (ready (record { number = job.number; line = job.line; call = job.call; phase = phase } ∷ jobs)) ≡ true → phase ≡ Ready
+among_here : (n : ℕ) (job : Job) (phase : JobPhase) (jobs : List Job) → is_among n (ready jobs) ≡ false → is_among n (ready (in_phase phase job ∷ jobs)) ≡ true → phase ≡ Ready
 among_here n job Ready jobs none among = refl
 among_here n job (Out from) jobs none among = absurd (cc)
 among_here n job Gone jobs none among = absurd (cc)
 
-among_later : (n : ℕ) (job : Job) (phase : JobPhase) (jobs : List Job) → IsOther n job.number → is_among n (ready (record { number = job.number; line = job.line; call = job.call; phase = phase } ∷ jobs)) ≡ true → is_among n (ready jobs) ≡ true
+among_later : (n : ℕ) (job : Job) (phase : JobPhase) (jobs : List Job) → IsOther n job.number → is_among n (ready (in_phase phase job ∷ jobs)) ≡ true → is_among n (ready jobs) ≡ true
 among_later n job Ready jobs other among = rw other.test at among
 among_later n job (Out from) jobs other among = among
 among_later n job Gone jobs other among = among
@@ -266,15 +262,14 @@ all_gone : (jobs : List Job) → held_of jobs ≡ [] → AllByRecursion (λ (job
 all_gone [] none = tt
 all_gone (job ∷ jobs) none = by_phase job.phase none (all_gone jobs)
   where
-    by_phase : (phase : JobPhase) → held_of (record { number = job.number; line = job.line; call = job.call; phase = phase } ∷ jobs) ≡ [] → (held_of jobs ≡ [] → AllByRecursion (λ (j : Job). j.phase ≡ Gone) jobs)
-        → (phase ≡ Gone) × AllByRecursion (λ (j : Job). j.phase ≡ Gone) jobs
+    by_phase : (phase : JobPhase) → held_when phase job ++ held_of jobs ≡ [] → (held_of jobs ≡ [] → AllByRecursion (λ (j : Job). j.phase ≡ Gone) jobs) → (phase ≡ Gone) × AllByRecursion (λ (j : Job). j.phase ≡ Gone) jobs
     by_phase Ready empty rest = absurd (cc)
     by_phase (Out from) empty rest = absurd (cc)
     by_phase Gone empty rest = (refl, rest empty)
 
 none_held : (jobs : List Job) → AllByRecursion (λ (job : Job). job.phase ≡ Gone) jobs → held_of jobs ≡ []
 none_held [] gone = refl
-none_held (job ∷ jobs) gone = rw (held_of-cons job jobs, gone.0) (none_held jobs gone.1)
+none_held (job ∷ jobs) gone = rw gone.0 (none_held jobs gone.1)
 
 pub held_of-empty : (jobs : List Job) → (held_of jobs ≡ []) ↔ AllByRecursion (λ (job : Job). job.phase ≡ Gone) jobs
 held_of-empty jobs = (all_gone jobs, none_held jobs)
@@ -285,10 +280,10 @@ pub numbered_push : (first : ℕ) (jobs : List Job) (job : Job) → AreNumbered 
 numbered_push first [] job numbered next = (omega (arith, next), tt)
 numbered_push first (head ∷ jobs) job numbered next = (numbered.0, numbered_push (first + 1) jobs job numbered.1 (omega (arith, next)))
 
-number_stays : (k : ℕ) (phase : JobPhase) (job : Job) (b : Bool) → (if b then record { number = job.number; line = job.line; call = job.call; phase = phase } else job).number ≡ job.number
-number_stays k phase job true = refl
-number_stays k phase job false = refl
+number_stays : (phase : JobPhase) (job : Job) (b : Bool) → (if b then in_phase phase job else job).number ≡ job.number
+number_stays phase job true = refl
+number_stays phase job false = refl
 
 pub numbered_change : (n first : ℕ) (phase : JobPhase) (jobs : List Job) → AreNumbered first jobs → AreNumbered first (change_job n phase jobs)
 numbered_change n first phase [] numbered = numbered
-numbered_change n first phase (job ∷ jobs) numbered = (number_stays n phase job (job.number == n) ∙ numbered.0, numbered_change n (first + 1) phase jobs numbered.1)
+numbered_change n first phase (job ∷ jobs) numbered = (number_stays phase job (job.number == n) ∙ numbered.0, numbered_change n (first + 1) phase jobs numbered.1)

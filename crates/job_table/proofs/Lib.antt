@@ -1,5 +1,8 @@
 pub mod AllJobs
 pub mod Entries
 pub mod Known
+pub mod Numbers
 pub mod Places
+pub mod ReadySets
 pub mod Rising
+pub mod Steps

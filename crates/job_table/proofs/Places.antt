@@ -11,15 +11,16 @@ use Rattle.std.proofs.lemmas.Option.{slice_get_past}
 use Rattle.mount_model.specs.declared.event.Answered.{Answered}
 use Rattle.mount_model.specs.declared.record.Item.{Item}
 use Rattle.mount_model.specs.declared.record.Item.TheVariants as item
-use Rattle.mount_model.specs.Step.{Step, steps_of, IsInOrder}
+use Rattle.mount_model.specs.Step.{Step, steps_of, IsRow}
 use Rattle.mount_model.specs.Replies.{replies_in, reply_to}
-use Rattle.mount_model.proofs.Replies.{replies_of-in_order}
+use Rattle.mount_model.proofs.Replies.{replies_of-row}
 use Rattle.job_table.specs.Journal.{is_reply_to, reply_in}
 
 -- a reply among the items
 find-replies : (line : ℕ) (items : List Item) → option_map (λ a. a.reply) (find (λ a. eqb a.line line) (flat_map replies_in items)) ≡ option_and_then reply_in (find (is_reply_to line) items)
 find-replies line [] = refl
 find-replies line (item.Event event ∷ items) = find-replies line items
+find-replies line (item.Drop job ∷ items) = find-replies line items
 find-replies line (item.Ask ask ∷ items) = find-replies line items
 find-replies line (item.Reply answered ∷ items) = at_one (eqb answered.line line) refl (find-replies line items)
   where
@@ -45,11 +46,11 @@ module _ {X : Type 0} (p : X → Bool) where
       by_place at n false h = grind (arith, nat_tests, h)
 
 -- the reply to a line is in the item at its place
-module _ (line : ℕ) (items : List Item) (steps : List Step) (place : Option ℕ) (order : IsInOrder items) (are : steps_of items ≡ steps) (stands : place ≡ position (is_reply_to line) items) where
+module _ (line : ℕ) (items : List Item) (steps : List Step) (place : Option ℕ) (row : IsRow items) (are : steps_of items ≡ steps) (stands : place ≡ position (is_reply_to line) items) where
   reply_to-place : reply_to line steps ≡ option_and_then reply_in (option_and_then (slice_get items) place)
   reply_to-place =
       let found : find (is_reply_to line) items ≡ option_and_then (slice_get items) place = find-position (is_reply_to line) items ∙ ap (option_and_then (slice_get items)) (sym stands) in
-      ap (reply_to line) (sym are) ∙ (ap (λ r. option_map (λ a. a.reply) (find (λ a. eqb a.line line) r)) (replies_of-in_order items order) ∙ (find-replies line items ∙ ap (option_and_then reply_in) found))
+      ap (reply_to line) (sym are) ∙ (ap (λ r. option_map (λ a. a.reply) (find (λ a. eqb a.line line) r)) (replies_of-row items row) ∙ (find-replies line items ∙ ap (option_and_then reply_in) found))
 
   pub reply_to-nowhere : place ≡ None → None ≡ reply_to line steps
   reply_to-nowhere none = sym (reply_to-place ∙ ap (λ o. option_and_then reply_in (option_and_then (slice_get items) o)) none)

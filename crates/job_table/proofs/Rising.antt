@@ -1,15 +1,12 @@
 -- Changes of jobs whose numbers rise.
-use Rattle.std.proofs.Common.{◌≡◌, ℕ, ◌<◌, ◌≤◌, ◌⊎◌, inl, inr, Bool, true, false, cond, List, [], ◌∷◌, ◌++◌, Option, Some, None, refl, sym, ap, arith, nat_cmp, Ordering, Less, Equal, Greater}
+use Rattle.std.proofs.Common.{◌≡◌, ℕ, ◌<◌, ◌≤◌, ◌⊎◌, inl, inr, Bool, true, false, cond, List, [], ◌∷◌, ◌++◌, refl, ap, sym, arith, nat_cmp, Ordering, Less, Equal, Greater}
 use Rattle.std.proofs.lemmas.Bool.{ne_eqb}
 use Rattle.std.proofs.lemmas.Cmp.{ranked}
 use Rattle.std.specs.BTreeMap.{is_at}
 use Rattle.std.specs.List.{AllByRecursion}
 use Rattle.std.specs.Ordering.{MatchOrdering, is_eq}
 use Rattle.std.specs.Prelude.{◌==◌, if◌then◌else◌, not}
-use Rattle.std.specs.Set.{remove_key}
-use Rattle.mp_rules.specs.declared.facts.Question.{Question}
-use Rattle.bucket_model.specs.declared.call.Call.{Call}
-use Rattle.job_table.specs.LiveJobs.{Held, held_at, taken, with_taken, without, ready_numbers}
+use Rattle.job_table.specs.LiveJobs.{Held, taken, with_taken, without}
 use Rattle.job_table.specs.Kept.{IsBetween}
 
 -- the two tests of a number agree
@@ -89,78 +86,12 @@ pub between_push : (first last : ℕ) (held : List Held) (h : Held) → IsBetwee
 between_push first last [] h rises less = (omega (arith, rises, less), omega arith)
 between_push first last (g ∷ held) h rises less = (rises.0, between_push g.number last held h rises.1 less)
 
--- the ready numbers
+-- all of them
 
-ready_cons : (number line : ℕ) (call : Option Call) (question : Option Question) (held more : List Held) → ready_numbers held ≡ ready_numbers more → ready_numbers (record { number = number; line = line; call = call; question = question } ∷ held) ≡ ready_numbers (record { number = number; line = line; call = call; question = question } ∷ more)
-ready_cons number line None question held more same = same
-ready_cons number line (Some called) question held more same = ap (λ t. number ∷ t) same
+pub all_above : (first last : ℕ) (held : List Held) → IsBetween first held last → AllByRecursion (λ (h : Held). first < h.number) held
+all_above first last [] rises = tt
+all_above first last (h ∷ held) rises = (rises.0, all_above first last held (from_below first h.number last held (omega (arith, rises.0)) rises.1))
 
-pub ready_push : (number line : ℕ) (called : Call) (question : Option Question) (held : List Held) → ready_numbers (held ++ record { number = number; line = line; call = Some called; question = question } ∷ []) ≡ ready_numbers held ++ number ∷ []
-ready_push number line called question [] = refl
-ready_push number line called question (h ∷ held) = by_call h.call (ready_push number line called question held)
-  where
-    by_call : (call : Option Call) → ready_numbers (held ++ record { number = number; line = line; call = Some called; question = question } ∷ []) ≡ ready_numbers held ++ number ∷ []
-        → ready_numbers (record { number = h.number; line = h.line; call = call; question = h.question } ∷ held ++ record { number = number; line = line; call = Some called; question = question } ∷ []) ≡ ready_numbers (record { number = h.number; line = h.line; call = call; question = h.question } ∷ held) ++ number ∷ []
-    by_call None rest = rest
-    by_call (Some c) rest = ap (λ t. h.number ∷ t) rest
-
--- a number of no ready job is no key
-
-pub remove_none : (k first last : ℕ) (held : List Held) → k ≤ first → IsBetween first held last → remove_key (is_at (nat_cmp k)) (ready_numbers held) ≡ ready_numbers held
-remove_none k first last [] less rises = refl
-remove_none k first last (h ∷ held) less rises =
-    by_call h.call (is_other k h.number (λ e. omega (arith, less, rises.0, e))) (remove_none k h.number last held (omega (arith, less, rises.0)) rises.1)
-  where
-    by_call : (call : Option Call) → IsOther k h.number → remove_key (is_at (nat_cmp k)) (ready_numbers held) ≡ ready_numbers held
-        → remove_key (is_at (nat_cmp k)) (ready_numbers (record { number = h.number; line = h.line; call = call; question = h.question } ∷ held)) ≡ ready_numbers (record { number = h.number; line = h.line; call = call; question = h.question } ∷ held)
-    by_call None here rest = rest
-    by_call (Some c) here rest = rw here.by_order (ap (λ t. h.number ∷ t) rest)
-
--- below a number
-
-pub ready_below : (k first last : ℕ) (held : List Held) → IsBetween first held last → last < k → AllByRecursion (λ n. n < k) (ready_numbers held)
-ready_below k first last [] rises less = tt
-ready_below k first last (h ∷ held) rises less =
-    by_call h.call (omega (arith, upto h.number last held rises.1, less)) (ready_below k h.number last held rises.1 less)
-  where
-    by_call : (call : Option Call) → h.number < k → AllByRecursion (λ n. n < k) (ready_numbers held) → AllByRecursion (λ n. n < k) (ready_numbers (record { number = h.number; line = h.line; call = call; question = h.question } ∷ held))
-    by_call None here rest = rest
-    by_call (Some c) here rest = (here, rest)
-
--- where the job of this number stands
-
--- its number leaves the keys as its call leaves it
-pub remove_taken : (k first last : ℕ) (held : List Held) → IsBetween first held last → remove_key (is_at (nat_cmp k)) (ready_numbers held) ≡ ready_numbers (with_taken k held)
-remove_taken k first last [] rises = refl
-remove_taken k first last (h ∷ held) rises =
-    elim (same_or_other k h.number) [
-      | inl w ↦ by_same h.call w (remove_none k h.number last held (omega (arith, w.same)) rises.1) (taken_none k h.number last held (omega (arith, w.same)) rises.1)
-      | inr w ↦ by_other h.call w (remove_taken k h.number last held rises.1)
-    ]
-  where
-    by_same : (call : Option Call) → IsSame k h.number → remove_key (is_at (nat_cmp k)) (ready_numbers held) ≡ ready_numbers held → with_taken k held ≡ held
-        → remove_key (is_at (nat_cmp k)) (ready_numbers (record { number = h.number; line = h.line; call = call; question = h.question } ∷ held)) ≡ ready_numbers (with_taken k (record { number = h.number; line = h.line; call = call; question = h.question } ∷ held))
-    by_same None w removed kept = rw (w.test, kept) removed
-    by_same (Some c) w removed kept = rw (w.test, w.by_order, kept) refl
-
-    by_other : (call : Option Call) → IsOther k h.number → remove_key (is_at (nat_cmp k)) (ready_numbers held) ≡ ready_numbers (with_taken k held)
-        → remove_key (is_at (nat_cmp k)) (ready_numbers (record { number = h.number; line = h.line; call = call; question = h.question } ∷ held)) ≡ ready_numbers (with_taken k (record { number = h.number; line = h.line; call = call; question = h.question } ∷ held))
-    by_other None w rest = rw w.test rest
-    by_other (Some c) w rest = rw (w.test, w.by_order) (ap (λ t. h.number ∷ t) rest)
-
--- a job that is out has no ready number
-pub ready_without : (k first last : ℕ) (held : List Held) (job : Held) → IsBetween first held last → held_at k held ≡ Some job → job.call ≡ None → ready_numbers held ≡ ready_numbers (without k held)
-ready_without k first last [] job rises stands is_out = refl
-ready_without k first last (h ∷ held) job rises stands is_out =
-    elim (same_or_other k h.number) [
-      | inl w ↦ by_same h.call w stands (without_none k h.number last held (omega (arith, w.same)) rises.1)
-      | inr w ↦ let found : held_at k held ≡ Some job = rw w.test at stands in
-          rw w.test (ready_cons h.number h.line h.call h.question held (without k held) (ready_without k h.number last held job rises.1 found is_out))
-    ]
-  where
-    by_same : (call : Option Call) → IsSame k h.number → held_at k (record { number = h.number; line = h.line; call = call; question = h.question } ∷ held) ≡ Some job → without k held ≡ held
-        → ready_numbers (record { number = h.number; line = h.line; call = call; question = h.question } ∷ held) ≡ ready_numbers (without k (record { number = h.number; line = h.line; call = call; question = h.question } ∷ held))
-    by_same None w found kept = rw (w.test, kept) refl
-    by_same (Some c) w found kept =
-        let found : Some (record { number = h.number; line = h.line; call = Some c; question = h.question }) ≡ Some job = rw w.test at found in
-        absurd (cc)
+pub all_below : (k first last : ℕ) (held : List Held) → IsBetween first held last → last < k → AllByRecursion (λ (h : Held). h.number < k) held
+all_below k first last [] rises less = tt
+all_below k first last (h ∷ held) rises less = (omega (arith, upto h.number last held rises.1, less), all_below k h.number last held rises.1 less)

@@ -24,15 +24,13 @@ all_known known lines = list_all (λ line. is_among line.number known) lines
 
 -- whether the item is a reply to the line of this number
 abbrev pub is_reply_to : ℕ → Item → Bool
-is_reply_to line (item.Event event) = false
-is_reply_to line (item.Ask ask) = false
 is_reply_to line (item.Reply answered) = answered.line == line
+is_reply_to line other = false
 
 -- the reply that an item gives, if it gives one
 abbrev pub reply_in : Item → Option Reply
-reply_in (item.Event event) = None
-reply_in (item.Ask ask) = None
 reply_in (item.Reply answered) = Some answered.reply
+reply_in other = None
 
 -- the place of the line's reply, where one is noted
 abbrev pub place_in : BTreeMap ℕ (Option ℕ) → ℕ → Option ℕ

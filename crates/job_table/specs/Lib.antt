@@ -1,3 +1,4 @@
 pub mod Journal
 pub mod Kept
 pub mod LiveJobs
+pub mod ReadyNumbers

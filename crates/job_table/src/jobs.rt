@@ -1,46 +1,50 @@
-ghost use Rattle.std.specs.Prelude.{◌≡◌, ◌+◌, ◌^◌, ◌<◌, ◌≤◌, ◌↔◌, ◌∷◌, [], ◌++◌, Some, IfOk, OnOk, OnErr, IsTrue, length, slice_get};
+ghost use Rattle.std.specs.Prelude.{◌≡◌, ◌+◌, ◌^◌, ◌<◌, ◌≤◌, ◌↔◌, ◌∷◌, [], ◌++◌, Some, IfSome, IfOk, OnOk, OnErr, IsTrue, length, slice_get};
 ghost use Rattle.mount_model.specs.declared.event.Event.TheVariants.{Take, Done};
-ghost use Rattle.mount_model.specs.Step.{step_of, with_ask, change_last, MayAsk};
-ghost use Rattle.job_table.specs.LiveJobs.{Held, IsReadyIn, IsOutIn, held_at, with_taken, without, ready_numbers};
+ghost use Rattle.mount_model.specs.Step.{step_of, with_drop, with_ask, change_last, HasStep};
+ghost use Rattle.job_table.specs.LiveJobs.{Held, IsReadyIn, IsOutIn, held_at, with_taken, without, ready_numbers, ready_of_writer};
 
+use crate::Purpose;
 use crate::journal::Journal;
+use crate::ready::ReadyJobs;
 use bucket_model::{Brief, Call};
 use mount_model::{Ask, AskedCall, Event, Owner};
-use mp_rules::Question;
 use std::alloc::{AllocError, Global};
-use std::collections::{BTreeMap, BTreeSet};
+use std::collections::BTreeMap;
 use std::marker::Model;
 
 // A job's call is there until it is taken.
 #[derive(Drop)]
 struct Live {
+    owner: Owner,
     line: u32,
     call: Option<Call>,
-    question: Option<Question>,
+    purpose: Purpose,
 }
 
-/// What a turn asks for: a call, whose job it is, how the record tells it, and the question that it asks, if it asks
-/// one.
+/// What a turn asks for: a call, how the record tells it, and what it is for; whose job it is, and the line whose turn
+/// asks for it, or which opened its writer.
 #[derive(Debug, Drop)]
 pub struct Asking {
     pub owner: Owner,
+    pub line: u32,
     pub call: Call,
     pub asked: AskedCall,
-    pub question: Option<Question>,
+    pub purpose: Purpose,
 }
 
-/// Whose turn asked, and the question that was asked, if it was one.
+/// Whose job it was, the line whose turn asked for it, or which opened its writer, and what its call was for.
 #[derive(Debug, Drop)]
 pub struct Asker {
+    pub owner: Owner,
     pub line: u32,
-    pub question: Option<Question>,
+    pub purpose: Purpose,
 }
 
 /// The jobs that are ready or out, by number. A job's number is how many were asked before it, and one.
 #[derive(Drop)]
 pub struct Jobs {
     live: BTreeMap<u64, Live>,
-    ready: BTreeSet<u64>,
+    ready: ReadyJobs,
     count: u64,
 }
 
@@ -53,7 +57,7 @@ impl Model for Jobs {
 
     ghost view = { λ a. record { count = a.count; held = held_in a.live.entries } };
 
-    ghost invariant = { λ a. IsKept a.live.entries a.ready.keys a.count };
+    ghost invariant = { λ a. IsKept a.live.entries a.ready a.count };
 }
 
 impl Jobs {
@@ -64,34 +68,41 @@ impl Jobs {
     {
         Jobs {
             live: BTreeMap::new(alloc),
-            ready: BTreeSet::new(alloc),
+            ready: ReadyJobs::new(alloc),
             count: 0,
         }
     }
 
-    // One more job, which is ready, and its number. An error drops the call and the question.
-    fn add(&mut self, line: u32, call: Call, question: Option<Question>) -> Result<u64, AllocError>
+    // One more job, which is ready, and its number. An error drops the call and its purpose.
+    fn add(
+        &mut self,
+        owner: Owner,
+        line: u32,
+        call: Call,
+        purpose: Purpose,
+    ) -> Result<u64, AllocError>
         ensures number { IfOk result (λ number. number ≡ self.old.count + 1) }
-        ensures ok { OnOk result (self.new ≡ record { count = self.old.count + 1; held = self.old.held ++ record { number = self.old.count + 1; line = line; call = Some call; question = question } ∷ [] }) }
+        ensures ok { OnOk result (self.new ≡ record { count = self.old.count + 1; held = self.old.held ++ record { number = self.old.count + 1; owner = owner; line = line; call = Some call; purpose = purpose } ∷ [] }) }
         ensures err { OnErr result (self.new ≡ self.old) }
     {
         let number = match self.count.checked_add(1) {
             Some(number) => number,
             None => return Err(AllocError),
         };
-        match self.ready.insert(number) {
-            Ok(_) => {}
+        match self.ready.insert(owner, number) {
+            Ok(()) => {}
             Err(_) => return Err(AllocError),
         }
         let live = Live {
+            owner,
             line,
             call: Some(call),
-            question,
+            purpose,
         };
         match self.live.insert(number, live) {
             Ok(_) => {}
             Err(_) => {
-                self.ready.remove(&number);
+                self.ready.remove(owner, number);
                 return Err(AllocError);
             }
         }
@@ -99,19 +110,18 @@ impl Jobs {
         Ok(number)
     }
 
-    /// One more job, which is ready, of the line whose turn asks for it, and its number. Room for the entries of its
-    /// ask, its take and its end is made here, beside so much that is owed already. An error, which is want of memory
-    /// or of numbers, changes nothing that is seen.
+    /// One more job, which is ready, and its number. Room for the entries of its ask, its take and its end is made
+    /// here, beside so much that is owed already. An error, which is want of memory or of numbers, changes nothing
+    /// that is seen.
     pub fn ask(
         &mut self,
         journal: &mut Journal,
         owed: usize,
-        line: u32,
         asking: Asking,
     ) -> Result<u64, AllocError>
-        requires { MayAsk journal.old.steps }
+        requires { HasStep journal.old.steps }
         ensures number { IfOk result (λ number. number ≡ self.old.count + 1) }
-        ensures ok { OnOk result (self.new ≡ record { count = self.old.count + 1; held = self.old.held ++ record { number = self.old.count + 1; line = line; call = Some asking.call; question = asking.question } ∷ [] }) }
+        ensures ok { OnOk result (self.new ≡ record { count = self.old.count + 1; held = self.old.held ++ record { number = self.old.count + 1; owner = asking.owner; line = asking.line; call = Some asking.call; purpose = asking.purpose } ∷ [] }) }
         ensures steps { OnOk result (journal.new.steps ≡ change_last (with_ask (record { job = self.old.count + 1; owner = asking.owner; call = asking.asked })) journal.old.steps) }
         ensures room { OnOk result (owed + 2 ≤ journal.new.room) }
         ensures fits { OnOk result (owed + 2 < 2 ^ 64) }
@@ -126,11 +136,12 @@ impl Jobs {
         journal.make_room(items)?;
         let Asking {
             owner,
+            line,
             call,
             asked,
-            question,
+            purpose,
         } = asking;
-        let job = self.add(line, call, question)?;
+        let job = self.add(owner, line, call, purpose)?;
         journal.ask(Ask {
             job,
             owner,
@@ -159,15 +170,34 @@ impl Jobs {
             Some(call) => call,
             None => unreachable!(),
         };
-        self.ready.remove(&job);
+        self.ready.remove(live.owner, job);
         call
+    }
+
+    /// A ready job is dropped: it is never taken, and gone from now on. Takes no memory.
+    pub fn drop_job(&mut self, journal: &mut Journal, job: u64)
+        requires ready { IsReadyIn job self.old.held }
+        requires room { 0 < journal.old.room }
+        requires step { HasStep journal.old.steps }
+        ensures count { self.new.count ≡ self.old.count }
+        ensures held { self.new.held ≡ without job self.old.held }
+        ensures steps { journal.new.steps ≡ change_last (with_drop job) journal.old.steps }
+        ensures room { journal.new.room + 1 ≡ journal.old.room }
+        ensures known { journal.new.known ≡ journal.old.known }
+    {
+        journal.drop_job(job);
+        let owner = match self.live.remove(&job) {
+            Some(live) => live.owner,
+            None => unreachable!(),
+        };
+        self.ready.remove(owner, job);
     }
 
     /// Who asked for this job, which is out, and is gone from now on. Takes no memory.
     pub fn done(&mut self, journal: &mut Journal, job: u64, position: u64, answer: Brief) -> Asker
         requires out { IsOutIn job self.old.held }
         requires room { 0 < journal.old.room }
-        ensures asker { (h : Held) → held_at job self.old.held ≡ Some h → (result.line ≡ h.line) × (result.question ≡ h.question) }
+        ensures asker { (h : Held) → held_at job self.old.held ≡ Some h → (result.owner ≡ h.owner) × (result.line ≡ h.line) × (result.purpose ≡ h.purpose) }
         ensures count { self.new.count ≡ self.old.count }
         ensures held { self.new.held ≡ without job self.old.held }
         ensures steps { journal.new.steps ≡ journal.old.steps ++ step_of (Done job position answer) ∷ [] }
@@ -181,8 +211,9 @@ impl Jobs {
         });
         match self.live.remove(&job) {
             Some(live) => Asker {
+                owner: live.owner,
                 line: live.line,
-                question: live.question,
+                purpose: live.purpose,
             },
             None => unreachable!(),
         }
@@ -192,7 +223,7 @@ impl Jobs {
     pub fn ready(&self, place: usize) -> Option<u64>
         ensures { result ≡ slice_get (ready_numbers self.now.held) place }
     {
-        self.ready.iter().copied().nth(place)
+        self.ready.at(place)
     }
 
     /// How many jobs are ready.
@@ -200,6 +231,14 @@ impl Jobs {
         ensures { result ≡ length (ready_numbers self.now.held) }
     {
         self.ready.len()
+    }
+
+    /// The first ready job of the writer that this line opened, at the cost of a logarithm of how many are ready.
+    pub fn ready_of_writer(&self, line: u32) -> Option<u64>
+        ensures first { result ≡ slice_get (ready_of_writer line self.now.held) 0 }
+        ensures ready { IfSome result (λ job. IsReadyIn job self.now.held) }
+    {
+        self.ready.first_of_writer(line)
     }
 
     /// Whether no job is ready or out.
@@ -214,21 +253,40 @@ impl Jobs {
 mod tests {
     use super::*;
     use mount_model::Item;
+    use mp_rules::Question;
     use mp_types::Key;
     use std::test::Fail;
 
-    // The call with its question, if one stands here.
-    fn head(alloc: Global, key: &str, question: Option<Question>) -> Result<Asking, Fail> {
+    // What stands at the key, for the line.
+    fn head(alloc: Global, line: u32, key: &str) -> Result<Asking, Fail> {
         Ok(Asking {
-            owner: Owner::Line(7),
+            owner: Owner::Line(line),
+            line,
             call: Call::Head {
                 key: Key::parse(alloc, key)?,
             },
             asked: AskedCall::Head {
                 key: Key::parse(alloc, key)?,
             },
-            question,
+            purpose: Purpose::Question(Question::Head(Key::parse(alloc, key)?)),
         })
+    }
+
+    // The end of an upload, for the writer that the line opened.
+    fn complete(line: u32) -> Asking {
+        Asking {
+            owner: Owner::Writer(line),
+            line,
+            call: Call::Complete {
+                upload: 0,
+                parts: 1,
+            },
+            asked: AskedCall::Complete {
+                upload: 0,
+                parts: 1,
+            },
+            purpose: Purpose::Complete,
+        }
     }
 
     fn is_head(call: &Call, expected: &str) -> bool {
@@ -238,20 +296,16 @@ mod tests {
         }
     }
 
-    fn asked(alloc: Global, key: &str) -> Result<Question, Fail> {
-        Ok(Question::Head(Key::parse(alloc, key)?))
-    }
-
-    fn is_asked(question: &Option<Question>, expected: &str) -> bool {
-        match question {
-            Some(Question::Head(key)) => key.as_str() == expected,
+    fn is_asked(purpose: &Purpose, expected: &str) -> bool {
+        match purpose {
+            Purpose::Question(Question::Head(key)) => key.as_str() == expected,
             _ => false,
         }
     }
 
     // A step has begun.
     fn begun(alloc: Global) -> Result<Journal, Fail>
-        ensures { IfOk result (λ journal. MayAsk journal.steps) }
+        ensures { IfOk result (λ journal. HasStep journal.steps) }
     {
         let mut journal = Journal::new(alloc, &[])?;
         journal.make_room(1)?;
@@ -266,15 +320,34 @@ mod tests {
         }
     }
 
+    fn is_dropped(item: Option<&Item>, expected: u64) -> bool {
+        match item {
+            Some(Item::Drop(job)) => *job == expected,
+            _ => false,
+        }
+    }
+
+    // Drops the first ready job of the writer.
+    fn drop_first(jobs: &mut Jobs, journal: &mut Journal, line: u32) -> Result<(), Fail>
+        requires room { 0 < journal.old.room }
+        requires step { HasStep journal.old.steps }
+        ensures room { OnOk result (journal.new.room + 1 ≡ journal.old.room) }
+        ensures step { OnOk result (HasStep journal.new.steps) }
+    {
+        let job = jobs.ready_of_writer(line).ok_or("a job is ready")?;
+        jobs.drop_job(journal, job);
+        Ok(())
+    }
+
     #[test]
     fn a_job_is_ready_until_it_is_taken(rt: HostRuntime) -> Result<(), Fail> {
         let alloc = rt.alloc();
         let mut journal = begun(alloc)?;
         let mut jobs = Jobs::new(alloc);
-        let first = head(alloc, "a", None)?;
-        assert_eq!(rt; jobs.ask(&mut journal, 0, 7, first)?, 1);
-        let second = head(alloc, "b", Some(asked(alloc, "b")?))?;
-        assert_eq!(rt; jobs.ask(&mut journal, 2, 8, second)?, 2);
+        let first = head(alloc, 7, "a")?;
+        assert_eq!(rt; jobs.ask(&mut journal, 0, first)?, 1);
+        let second = head(alloc, 8, "b")?;
+        assert_eq!(rt; jobs.ask(&mut journal, 2, second)?, 2);
         assert_eq!(rt; jobs.ready(0), Some(1));
         assert_eq!(rt; jobs.ready(1), Some(2));
         assert_eq!(rt; jobs.ready(2), None);
@@ -286,7 +359,8 @@ mod tests {
         assert_eq!(rt; jobs.ready_len(), 1);
         let asker = jobs.done(&mut journal, 2, 0, Brief::Missing);
         assert_eq!(rt; asker.line, 8);
-        assert!(rt; is_asked(&asker.question, "b"));
+        assert_eq!(rt; asker.owner, Owner::Line(8));
+        assert!(rt; is_asked(&asker.purpose, "b"));
         assert_eq!(rt; jobs.ready(0), Some(1));
         Ok(())
     }
@@ -297,16 +371,38 @@ mod tests {
         let mut journal = begun(alloc)?;
         let mut jobs = Jobs::new(alloc);
         assert!(rt; jobs.is_empty());
-        let asking = head(alloc, "a", None)?;
-        assert_eq!(rt; jobs.ask(&mut journal, 0, 7, asking)?, 1);
-        let call = jobs.take(&mut journal, 1, 1, 0);
-        assert!(rt; is_head(&call, "a"));
+        let asking = complete(7);
+        assert_eq!(rt; jobs.ask(&mut journal, 0, asking)?, 1);
+        assert_eq!(rt; jobs.ready_of_writer(7), Some(1));
+        let _ = jobs.take(&mut journal, 1, 1, 0);
         assert_eq!(rt; jobs.ready(0), None);
+        assert_eq!(rt; jobs.ready_of_writer(7), None);
         assert!(rt; !jobs.is_empty());
-        let asker = jobs.done(&mut journal, 1, 0, Brief::Missing);
-        assert_eq!(rt; asker.line, 7);
-        assert!(rt; asker.question.is_none());
+        let asker = jobs.done(&mut journal, 1, 0, Brief::Stored);
+        assert_eq!(rt; asker.owner, Owner::Writer(7));
+        assert!(rt; matches!(asker.purpose, Purpose::Complete));
         assert!(rt; jobs.is_empty());
+        Ok(())
+    }
+
+    #[test]
+    fn a_writer_drops_its_own_jobs(rt: HostRuntime) -> Result<(), Fail> {
+        let alloc = rt.alloc();
+        let mut journal = begun(alloc)?;
+        let mut jobs = Jobs::new(alloc);
+        assert_eq!(rt; jobs.ask(&mut journal, 0, complete(3))?, 1);
+        assert_eq!(rt; jobs.ask(&mut journal, 2, complete(5))?, 2);
+        assert_eq!(rt; jobs.ask(&mut journal, 4, complete(3))?, 3);
+        assert_eq!(rt; jobs.ready_of_writer(3), Some(1));
+        assert_eq!(rt; jobs.ready_of_writer(4), None);
+        drop_first(&mut jobs, &mut journal, 3)?;
+        assert!(rt; is_dropped(journal.record().items().last(), 1));
+        assert_eq!(rt; jobs.ready(0), Some(2));
+        assert_eq!(rt; jobs.ready_of_writer(3), Some(3));
+        drop_first(&mut jobs, &mut journal, 3)?;
+        assert_eq!(rt; jobs.ready_of_writer(3), None);
+        assert_eq!(rt; jobs.ready_of_writer(5), Some(2));
+        assert_eq!(rt; jobs.ready_len(), 1);
         Ok(())
     }
 }

@@ -2,7 +2,7 @@ ghost use Rattle.std.specs.Prelude.{◌≡◌, ℕ, ◌+◌, ◌<◌, ◌≤◌,
 ghost use Rattle.std.specs.Option.{option_or};
 ghost use Rattle.std.specs.Ordering.{nat_cmp};
 ghost use Rattle.std.specs.BTreeMap.{get, keys};
-ghost use Rattle.mount_model.specs.Step.{step_of, with_ask, with_reply, change_last, MayAsk, HasStep};
+ghost use Rattle.mount_model.specs.Step.{step_of, with_drop, with_ask, with_reply, change_last, HasStep};
 ghost use Rattle.mount_model.specs.Replies.{reply_to};
 ghost use Rattle.mount_model.specs.Run.{is_among};
 ghost use Rattle.job_table.specs.Journal.{all_known, place_in, reply_in};
@@ -68,8 +68,7 @@ fn reply_of(item: &Item) -> Option<&Reply>
 {
     match item {
         Item::Reply(answered) => Some(&answered.reply),
-        Item::Event(_) => None,
-        Item::Ask(_) => None,
+        Item::Event(_) | Item::Drop(_) | Item::Ask(_) => None,
     }
 }
 
@@ -105,10 +104,21 @@ impl Journal {
         self.record.event(event);
     }
 
-    /// Adds a job to the last step, which has no reply yet.
+    /// Adds a job that is dropped to the last step.
+    pub fn drop_job(&mut self, job: u64)
+        requires room { 0 < self.old.room }
+        requires may { HasStep self.old.steps }
+        ensures steps { self.new.steps ≡ change_last (with_drop job) self.old.steps }
+        ensures room { self.new.room + 1 ≡ self.old.room }
+        ensures known { self.new.known ≡ self.old.known }
+    {
+        self.record.drop_job(job);
+    }
+
+    /// Adds a job to the last step.
     pub fn ask(&mut self, ask: Ask)
         requires room { 0 < self.old.room }
-        requires may { MayAsk self.old.steps }
+        requires may { HasStep self.old.steps }
         ensures steps { self.new.steps ≡ change_last (with_ask ask) self.old.steps }
         ensures room { self.new.room + 1 ≡ self.old.room }
         ensures known { self.new.known ≡ self.old.known }

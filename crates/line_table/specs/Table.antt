@@ -85,21 +85,12 @@ abbrev pub awaited : Standing → Option ℕ
 awaited s = by_phase s.phase
   where
     by_phase : Phase → Option ℕ
-    by_phase Waiting = None
     by_phase (Begun heard) = by_request s.line.request
       where
         by_request : Request → Option ℕ
-        by_request (request.Put key content) = None
         by_request request.Await = Some s.line.number
-        by_request (request.Stat path) = None
-        by_request (request.OpenRead name path) = None
-        by_request (request.Read name offset count) = None
-        by_request (request.Close name) = None
-        by_request (request.Delete key) = None
-        by_request (request.MakeDir path) = None
-        by_request (request.RemoveDir path) = None
-        by_request (request.Unlink path) = None
-    by_phase Replied = None
+        by_request other = None
+    by_phase other = None
 
 -- what a table keeps true of its parts
 pub record IsTable (lines : List Standing) (followers : List (Option ℕ)) (numbers : List ℕ) (room first_open : ℕ) : Type 0 where

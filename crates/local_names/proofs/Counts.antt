@@ -127,7 +127,7 @@ module _ {K : Type 0} {R : K → K → Ordering} (order : IsTotalOrder R) (disti
         by_member true = omega arith
         by_member false = omega arith
 
-    -- some member passes exactly if the count isn't 0
+    -- of a list with just these members, some passes exactly if the count isn't 0
 
     passer : (ks : List K) → list_any p ks ≡ true → (k : K) × (p k ≡ true) × (list_any (eq_by_cmp R k) ks ≡ true)
     passer [] is = absurd (cc)
@@ -147,17 +147,17 @@ module _ {K : Type 0} {R : K → K → Ordering} (order : IsTotalOrder R) (disti
         by_test true same is rest = ap (λ (b : Bool). b || list_any p ks) (ap p (sym (same_key k x same)) ∙ passes)
         by_test false same is rest = ap (λ (b : Bool). p x || b) (rest is) ∙ or_true (p x)
 
-    pub any_counts : (s : set.FinSet R) → list_any p (set.items s) ≡ nat_lt 0 (set.len (set.retain s p))
-    any_counts s = by_any (list_any p (set.items s)) refl
+    pub any_counts : (ks : List K) (s : set.FinSet R) → ((q : K) → set.contains s q ≡ list_any (eq_by_cmp R q) ks) → list_any p ks ≡ nat_lt 0 (set.len (set.retain s p))
+    any_counts ks s members = by_any (list_any p ks) refl
       where
-        by_any : (b : Bool) → list_any p (set.items s) ≡ b → b ≡ nat_lt 0 (set.len (set.retain s p))
+        by_any : (b : Bool) → list_any p ks ≡ b → b ≡ nat_lt 0 (set.len (set.retain s p))
         by_any true is =
-            let k = passer (set.items s) is in
-            let here : set.contains (set.retain s p) k.0 ≡ true = retained s k.0 ∙ ap (λ (b : Bool). b && p k.0) (set.contains-items s k.0 ∙ k.2) ∙ k.1 in
+            let k = passer ks is in
+            let here : set.contains (set.retain s p) k.0 ≡ true = retained s k.0 ∙ ap (λ (b : Bool). b && p k.0) (members k.0 ∙ k.2) ∙ k.1 in
             sym ((Decides-ltb 0 (set.len (set.retain s p))).1 (not_empty (set.retain s p) k.0 here))
         by_any false is =
             let none : set.retain s p ≡ set.empty = set.same_set order distinct (set.retain s p) set.empty (λ q.
             retained s q
-            ∙ none_passes (set.contains s q) (p q) (λ member passes. true≢false (sym (any_from (set.items s) q passes (sym (set.contains-items s q) ∙ member)) ∙ is))
+            ∙ none_passes (set.contains s q) (p q) (λ member passes. true≢false (sym (any_from ks q passes (sym (members q) ∙ member)) ∙ is))
             ∙ sym (set.contains-empty R q)) in
             sym (ap (λ (n : ℕ). nat_lt 0 n) (ap set.len none ∙ set.len-empty R))

@@ -9,7 +9,7 @@ use Rattle.std.specs.String.{string_cmp}
 use Rattle.local_names.specs.declared.nodes.Node.{Node}
 use Rattle.mp_rules.specs.declared.entry.Local.{Local}
 use Rattle.mp_rules.specs.declared.entry.Local.TheVariants as local
-use Rattle.local_names.specs.Nodes.{bare, is_bare, kept, has_node, node_in}
+use Rattle.local_names.specs.Nodes.{bare, is_bare, kept, has_node, node_in, kind_in, count_in}
 
 kept_bare : (b : Bool) (node : Node) → b ≡ true → cond b None (Some node) ≡ None
 kept_bare true node is = refl
@@ -54,7 +54,7 @@ module _ {Y : Type 0} (old new : BTreeMap (String Y) Node) (key : List ℕ) (tex
 same_bare : (kind : Local) (below : ℕ) → is_bare (record { kind = kind; below = below }) ≡ true → bare ≡ record { kind = kind; below = below }
 same_bare local.None below is = ap (λ (n : ℕ). record { kind = local.None; below = n }) (grind arith)
 same_bare local.Dir below is = absurd (cc)
-same_bare local.File below is = absurd (cc)
+same_bare (local.File size) below is = absurd (cc)
 
 kept_or_bare : (b : Bool) (node : Node) → (b ≡ true → bare ≡ node) → unwrap_or (cond b None (Some node)) bare ≡ node
 kept_or_bare true node same = same refl
@@ -73,3 +73,29 @@ module _ {Y : Type 0} (old new : BTreeMap (String Y) Node) (key : List ℕ) (nod
 
   pub has_elsewhere : (q : List ℕ) → bytes_eq key q ≡ false → has_node new q ≡ has_node old q
   has_elsewhere q other = ap (λ (o : Option Node). is_some o) (is q ∙ ap (λ (b : Bool). cond b (kept node) (get_by_text old q)) other)
+
+-- a node that is kept is given another kind
+
+kind_of_cond : (b : Bool) (node other : Node) → (cond b node other).kind ≡ cond b node.kind other.kind
+kind_of_cond true node other = refl
+kind_of_cond false node other = refl
+
+count_stays : (b : Bool) (node other : Node) → (b ≡ true → node.below ≡ other.below) → (cond b node other).below ≡ other.below
+count_stays true node other same = same refl
+count_stays false node other same = refl
+
+module _ {Y : Type 0} (old new : BTreeMap (String Y) Node) (key : List ℕ) (kind : Local) (node : Node) (there : get_by_text old key ≡ Some node)
+    (updates : UpdatesBy string_cmp (λ k. slice_cmp nat_cmp key (string_bytes k)) old new (Some (record { kind = kind; below = node.below }))) where
+  node_changed : (q : List ℕ) → node_in new q ≡ cond (bytes_eq key q) (record { kind = kind; below = node.below }) (node_in old q)
+  node_changed q =
+      let now : Option Node = Some (record { kind = kind; below = node.below }) in
+      ap (λ (o : Option Node). unwrap_or o bare) (btree_map_updates_text key old new now updates q) ∙ cond_node (bytes_eq key q) now (get_by_text old q)
+
+  pub kinds_changed : (q : List ℕ) → kind_in new q ≡ cond (bytes_eq key q) kind (kind_in old q)
+  kinds_changed q = ap (λ (n : Node). n.kind) (node_changed q) ∙ kind_of_cond (bytes_eq key q) (record { kind = kind; below = node.below }) (node_in old q)
+
+  pub counts_stay : (q : List ℕ) → count_in new q ≡ count_in old q
+  counts_stay q =
+      ap (λ (n : Node). n.below) (node_changed q)
+      ∙ count_stays (bytes_eq key q) (record { kind = kind; below = node.below }) (node_in old q)
+      (λ is. ap (λ (o : Option Node). (unwrap_or o bare).below) (sym there) ∙ ap (λ (k : List ℕ). count_in old k) ((bytes_decides key q).0 is))

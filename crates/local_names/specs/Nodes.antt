@@ -8,17 +8,21 @@ use Rattle.local_names.specs.declared.nodes.Node.{Node}
 abbrev pub is_none : Local → Bool
 is_none local.None = true
 is_none local.Dir = false
-is_none local.File = false
+is_none (local.File size) = false
 
 abbrev pub is_dir : Local → Bool
 is_dir local.None = false
 is_dir local.Dir = true
-is_dir local.File = false
+is_dir (local.File size) = false
+
+-- how many bytes a file has
+abbrev pub size_of : Local → Option ℕ
+size_of local.None = None
+size_of local.Dir = None
+size_of (local.File size) = Some size
 
 abbrev pub is_file : Local → Bool
-is_file local.None = false
-is_file local.Dir = false
-is_file local.File = true
+is_file kind = is_some (size_of kind)
 
 -- no name, and none below
 abbrev pub bare : Node

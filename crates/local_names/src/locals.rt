@@ -1,10 +1,11 @@
-ghost use Rattle.std.specs.Prelude.{◌≡◌, ◌<◌, false, length, OnOk, OnErr};
-ghost use Rattle.mp_rules.specs.Local.{no_names, with_dir, with_file, without_name, without_dirs_above, has_name_below, local_at};
+ghost use Rattle.std.specs.Prelude.{◌≡◌, ◌<◌, false, length, IsSome, OnOk, OnErr};
+ghost use Rattle.std.specs.FinMap as map;
+ghost use Rattle.mp_rules.specs.Local.{no_names, with_dir, with_file, without_name, without_file, without_dirs_above, has_name_below, local_at};
 ghost use Rattle.local_names.specs.Names.{is_name, with_name, without_dir};
 ghost use Rattle.local_names.specs.Nodes.{is_none};
 
 use crate::above::parent;
-use crate::nodes::{Nodes, add_name, node_at, remove_name};
+use crate::nodes::{Nodes, add_name, node_at, remove_name, set_size};
 use mp_rules::Local;
 use mp_types::Key;
 use std::alloc::{AllocError, Global};
@@ -64,13 +65,21 @@ impl Locals {
         self.add(key, Local::Dir)
     }
 
-    /// One more file that is being written. Its key is no name yet. An error changes nothing.
+    /// One more file that is being written, of no bytes. Its key is no name yet. An error changes nothing.
     pub fn add_file(&mut self, key: &Key) -> Result<(), AllocError>
         requires { is_name self.old key.now ≡ false }
-        ensures ok { OnOk result (self.new ≡ with_file key.now self.old) }
+        ensures ok { OnOk result (self.new ≡ with_file key.now 0 self.old) }
         ensures err { OnErr result (self.new ≡ self.old) }
     {
-        self.add(key, Local::File)
+        self.add(key, Local::File { size: 0 })
+    }
+
+    /// A file that is being written has this many bytes from now on. Takes no memory.
+    pub fn resize(&mut self, key: &str, size: u64)
+        requires { IsSome (map.get self.old.files key.now) }
+        ensures { self.new ≡ with_file key.now size self.old }
+    {
+        set_size(&mut self.nodes, key, size);
     }
 
     /// The name is given up, if it is one, and whether it was. Takes no memory.
@@ -83,6 +92,15 @@ impl Locals {
             remove_name(&mut self.nodes, key);
         }
         is_name
+    }
+
+    /// The file is given up, if the name is one; a directory stays. Takes no memory.
+    pub fn remove_file(&mut self, key: &str)
+        ensures { self.new ≡ without_file key.now self.old }
+    {
+        if node_at(&self.nodes, key).is_file() {
+            self.remove(key);
+        }
     }
 
     /// What is local at a key. Takes no memory.

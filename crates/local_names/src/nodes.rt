@@ -2,7 +2,7 @@ ghost use Rattle.std.specs.Prelude.{◌≡◌, ◌+◌, ◌≤◌, ◌<◌, ◌^
 ghost use Rattle.std.specs.BTreeMap.{get_by_text};
 ghost use Rattle.std.specs.Str.{bytes_eq};
 ghost use Rattle.mp_rules.specs.declared.entry.Local.TheVariants as local;
-ghost use Rattle.local_names.specs.Nodes.{is_bare, kept, node_in, kind_in, count_in, has_node, is_none, is_dir};
+ghost use Rattle.local_names.specs.Nodes.{is_bare, kept, node_in, kind_in, count_in, has_node, is_none, is_dir, is_file};
 ghost use Rattle.local_names.specs.Under.{is_under, one};
 
 use crate::above::parent;
@@ -43,6 +43,13 @@ impl Node {
         ensures { result ≡ is_dir self.kind }
     {
         matches!(self.kind, Local::Dir)
+    }
+
+    /// Whether the name kept here is a file.
+    pub fn is_file(self) -> bool
+        ensures { result ≡ is_file self.kind }
+    {
+        matches!(self.kind, Local::File { .. })
     }
 
     fn is_bare(self) -> bool
@@ -154,6 +161,18 @@ pub fn add_name(nodes: &mut Nodes, alloc: Global, key: &str, kind: Local) -> Res
     set_node(nodes, key, Node { kind, below });
     raise(nodes, key);
     Ok(())
+}
+
+/// Gives a file another size, at the cost of one look-up.
+pub fn set_size(nodes: &mut Nodes, key: &str, size: u64)
+    requires { is_file (kind_in nodes.old key.now) ≡ true }
+    ensures kinds { (q : List ℕ) → kind_in nodes.new q ≡ (if bytes_eq key.now q then local.File size else kind_in nodes.old q) }
+    ensures counts { (q : List ℕ) → count_in nodes.new q ≡ count_in nodes.old q }
+{
+    match nodes.get_mut(key) {
+        Some(node) => node.kind = Local::File { size },
+        None => unreachable!(),
+    }
 }
 
 /// Makes a name none.

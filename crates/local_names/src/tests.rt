@@ -4,6 +4,8 @@ use mp_types::Key;
 use std::alloc::Global;
 use std::test::*;
 
+const NEW_FILE: Local = Local::File { size: 0 };
+
 // Removes the name first, so that the key is none. It was none before.
 fn add(locals: &mut Locals, alloc: Global, key: &str, kind: Local) -> Result<(), Fail> {
     let key = Key::parse(alloc, key)?;
@@ -13,6 +15,15 @@ fn add(locals: &mut Locals, alloc: Global, key: &str, kind: Local) -> Result<(),
     match kind {
         Local::Dir => locals.add_dir(&key)?,
         _ => locals.add_file(&key)?,
+    }
+    Ok(())
+}
+
+fn resize(locals: &mut Locals, alloc: Global, key: &str, size: u64) -> Result<(), Fail> {
+    let key = Key::parse(alloc, key)?;
+    match locals.at(key.as_str()) {
+        Local::File { .. } => locals.resize(key.as_str(), size),
+        _ => return Err("it is a file".into()),
     }
     Ok(())
 }
@@ -42,14 +53,14 @@ fn a_name_stays_a_directory_while_others_stand_below(rt: HostRuntime) -> Result<
     let alloc = rt.alloc();
     let mut locals = Locals::new(alloc);
     add(&mut locals, alloc, "a", Local::Dir)?;
-    add(&mut locals, alloc, "a/f", Local::File)?;
+    add(&mut locals, alloc, "a/f", NEW_FILE)?;
     add(&mut locals, alloc, "a/b", Local::Dir)?;
-    add(&mut locals, alloc, "a/b/g", Local::File)?;
+    add(&mut locals, alloc, "a/b/g", NEW_FILE)?;
     assert!(rt; locals.remove("a/b"));
     assert_eq!(rt; locals.at("a/b"), Local::Dir);
     assert!(rt; locals.remove("a/b/g"));
     assert_eq!(rt; locals.at("a/b"), Local::None);
-    assert_eq!(rt; locals.at("a/f"), Local::File);
+    assert_eq!(rt; locals.at("a/f"), NEW_FILE);
     assert!(rt; locals.remove("a"));
     assert!(rt; locals.has_below("a"));
     assert!(rt; locals.remove("a/f"));
@@ -61,14 +72,14 @@ fn a_name_stays_a_directory_while_others_stand_below(rt: HostRuntime) -> Result<
 fn a_longer_name_is_not_below(rt: HostRuntime) -> Result<(), Fail> {
     let alloc = rt.alloc();
     let mut locals = Locals::new(alloc);
-    add(&mut locals, alloc, "ab", Local::File)?;
+    add(&mut locals, alloc, "ab", NEW_FILE)?;
     assert_eq!(rt; locals.at("a"), Local::None);
     assert!(rt; !locals.has_below("a"));
-    add(&mut locals, alloc, "a/b", Local::File)?;
+    add(&mut locals, alloc, "a/b", NEW_FILE)?;
     assert_eq!(rt; locals.at("a"), Local::Dir);
     assert!(rt; locals.remove("a/b"));
     assert_eq!(rt; locals.at("a"), Local::None);
-    assert_eq!(rt; locals.at("ab"), Local::File);
+    assert_eq!(rt; locals.at("ab"), NEW_FILE);
     Ok(())
 }
 
@@ -80,7 +91,7 @@ fn directories_above_are_given_up(rt: HostRuntime) -> Result<(), Fail> {
     add(&mut locals, alloc, "a", Local::Dir)?;
     add(&mut locals, alloc, "a/b", Local::Dir)?;
     add(&mut locals, alloc, "a/b/c", Local::Dir)?;
-    add(&mut locals, alloc, "a/b/f", Local::File)?;
+    add(&mut locals, alloc, "a/b/f", NEW_FILE)?;
     add(&mut locals, alloc, "x", Local::Dir)?;
     locals.dirs_above("a/b/c/d");
     locals.dirs_above("x");
@@ -89,6 +100,41 @@ fn directories_above_are_given_up(rt: HostRuntime) -> Result<(), Fail> {
     assert!(rt; !locals.remove("a/b"));
     assert_eq!(rt; locals.at("x"), Local::Dir);
     assert!(rt; locals.remove("a/b/f"));
+    assert_eq!(rt; locals.at("a"), Local::None);
+    Ok(())
+}
+
+#[test]
+fn a_file_has_the_size_that_it_was_given_last(rt: HostRuntime) -> Result<(), Fail> {
+    let alloc = rt.alloc();
+    let mut locals = Locals::new(alloc);
+    add(&mut locals, alloc, "a/f", NEW_FILE)?;
+    add(&mut locals, alloc, "a/g", NEW_FILE)?;
+    resize(&mut locals, alloc, "a/f", 5)?;
+    assert_eq!(rt; locals.at("a/f"), Local::File { size: 5 });
+    resize(&mut locals, alloc, "a/f", 7)?;
+    assert_eq!(rt; locals.at("a/f"), Local::File { size: 7 });
+    assert_eq!(rt; locals.at("a/g"), NEW_FILE);
+    assert_eq!(rt; locals.at("a"), Local::Dir);
+    assert!(rt; locals.remove("a/f"));
+    add(&mut locals, alloc, "a/f", NEW_FILE)?;
+    assert_eq!(rt; locals.at("a/f"), NEW_FILE);
+    Ok(())
+}
+
+#[test]
+fn only_a_file_is_removed_as_a_file(rt: HostRuntime) -> Result<(), Fail> {
+    let alloc = rt.alloc();
+    let mut locals = Locals::new(alloc);
+    add(&mut locals, alloc, "d", Local::Dir)?;
+    add(&mut locals, alloc, "a/f", NEW_FILE)?;
+    resize(&mut locals, alloc, "a/f", 5)?;
+    locals.remove_file("d");
+    locals.remove_file("a");
+    assert_eq!(rt; locals.at("d"), Local::Dir);
+    assert_eq!(rt; locals.at("a/f"), Local::File { size: 5 });
+    locals.remove_file("a/f");
+    assert_eq!(rt; locals.at("a/f"), Local::None);
     assert_eq!(rt; locals.at("a"), Local::None);
     Ok(())
 }

@@ -2,7 +2,7 @@
 use Rattle.std.proofs.Common.{◌≡◌, ℕ, List, [], ◌∷◌, ◌++◌, length, refl, sym, ap, ◌∙◌, append-nil, arith}
 use Rattle.std.specs.Option.{option_to_list}
 use Rattle.bucket_model.specs.declared.answer.Brief.{Brief}
-use Rattle.bucket_model.specs.declared.answer.Brief.TheVariants.{Found, Missing, Yes, No, Bytes, Changed, Gone, Made, Fault, NoMemory}
+use Rattle.bucket_model.specs.declared.answer.Brief.TheVariants.{Found, Missing, Yes, No, Bytes, Changed, Gone, Made, Upload, Stored, NoUpload, Fault, NoMemory}
 use Rattle.bucket_model.specs.declared.call.Call.{Call}
 use Rattle.bucket_model.specs.declared.history.Logged.{Logged}
 use Rattle.bucket_model.specs.Bucket.{version_made}
@@ -46,7 +46,10 @@ adds_as_served call asked old new place No is at_end served = adds_entry call as
 adds_as_served call asked old new place (Bytes count) is at_end served = adds_entry call asked old new place (Bytes count) is at_end served.1
 adds_as_served call asked old new place Changed is at_end served = adds_entry call asked old new place Changed is at_end served.1
 adds_as_served call asked old new place Gone is at_end served = adds_entry call asked old new place Gone is at_end served.1
-adds_as_served call asked old new place (Made etag) is at_end served = adds_entry call asked old new place (Made etag) is at_end served.1
+adds_as_served call asked old new place (Made etag) is at_end served = adds_entry call asked old new place (Made etag) is at_end served.0.1
+adds_as_served call asked old new place (Upload upload) is at_end served = adds_entry call asked old new place (Upload upload) is at_end served.0.1
+adds_as_served call asked old new place Stored is at_end served = adds_entry call asked old new place Stored is at_end served.1
+adds_as_served call asked old new place NoUpload is at_end served = adds_entry call asked old new place NoUpload is at_end served.1
 adds_as_served call asked old new place Fault is at_end served = absurd served
 adds_as_served call asked old new place NoMemory is at_end served = adds_none old new served
 

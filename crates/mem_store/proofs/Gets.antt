@@ -1,5 +1,5 @@
 -- What GetObject does to what a bucket in memory keeps, and whose bytes it brings.
-use Rattle.std.proofs.Common.{◌≡◌, ℕ, ◌<◌, ◌-◌, Bool, true, false, ◌&&◌, cond, List, length, Option, Some, None, sym, refl, ap, ◌∙◌, subst, BTreeMap, ◌≤◌, drop, arith}
+use Rattle.std.proofs.Common.{◌≡◌, ℕ, ◌<◌, ◌-◌, Bool, true, false, ◌&&◌, cond, List, length, Option, Some, None, sym, refl, ap, ◌∙◌, subst, ◌≤◌, drop, append-nil, arith}
 use Rattle.std.specs.BTreeMap as tree
 use Rattle.std.specs.Cmp.Lexicographic.{slice_cmp, pointwise}
 use Rattle.std.specs.List.{slice_range}
@@ -17,10 +17,11 @@ use Rattle.bucket_model.specs.declared.history.Logged.{Logged}
 use Rattle.bucket_model.specs.declared.history.Object.{Object}
 use Rattle.bucket_model.specs.Answers.{brief_of}
 use Rattle.bucket_model.specs.Bucket.{ObjectVersion, get_of, IsAnswer, IsSlice, object_at, version_at}
-use Rattle.bucket_model.specs.History.{replay, versions_of, IsLegalEntry, MayAnswer}
-use Rattle.mem_store.specs.Kept.{IsKept}
-use Rattle.mem_store.specs.Served.{answer_of_get, entry_of, IsServed, made_by, Serves}
-use Rattle.mem_store.proofs.Keeps.{keeps_reading, same_versions, with_entry}
+use Rattle.bucket_model.specs.History.{replay, versions_of}
+use Rattle.mem_store.specs.Kept.{IsKept, Kept}
+use Rattle.mem_store.specs.Served.{answer_of_get, entry_of}
+use Rattle.mem_store.proofs.Keeps.{Answered, plain_entry, reads, with_entry}
+use Rattle.mem_store.proofs.Replay.{versions_push}
 use Rattle.mem_store.proofs.Versions.{AreVersions, objects_are_versions}
 
 -- the object has the ETag, and reaches to the range's end
@@ -49,45 +50,21 @@ get_brief : (etag : List ℕ) (from to : ℕ) (object : Option Object) → brief
 get_brief etag from to None = refl
 get_brief etag from to (Some object) = brief_by_test etag from to object (has_range etag to object) refl
 
-get_entry : (log : List Logged) (key etag : List ℕ) (from to : ℕ) (object : Option Object) → from < to → object_at (replay log) key ≡ object → IsLegalEntry log (entry_of (Get key etag from to) (brief_of (answer_of_get etag from to object)))
-get_entry log key etag from to object low is =
-    let May : Answer → Type 0 = λ said. brief_of said ≡ get_of etag from to (object_at (replay log) key) → MayAnswer (replay log) (Get key etag from to) (brief_of said) in
-    record {
-      may = low;
-      answered = by_answer May etag from to object (λ e. e) (λ e. e) (λ bytes e. e) (get_brief etag from to object ∙ ap (get_of etag from to) (sym is));
-      took = λ _. refl;
-      made = by_answer (λ said. made_by (brief_of said) ≡ None) etag from to object refl refl (λ bytes. refl);
-      one_content = λ new made. absurd (cc);
-    }
+get_at : (kept : Kept) (log : List Logged) (key etag : List ℕ) (from to : ℕ) (object : Option Object) → from < to → IsKept kept log → object_at (replay log) key ≡ object
+    → Answered kept kept log (Get key etag from to) (brief_of (answer_of_get etag from to object))
+get_at kept log key etag from to object low before is =
+    let P : Answer → Type 0 = λ said. IsAnswer (replay log) (Get key etag from to) (brief_of said) → Answered kept kept log (Get key etag from to) (brief_of said) in
+    by_answer P etag from to object
+    (λ e. reads kept log (Get key etag from to) _ before (plain_entry log (Get key etag from to) _ low e refl refl refl) (λ new new_is. (e, new_is)) refl refl refl)
+    (λ e. reads kept log (Get key etag from to) _ before (plain_entry log (Get key etag from to) _ low e refl refl refl) (λ new new_is. (e, new_is)) refl refl refl)
+    (λ bytes e. reads kept log (Get key etag from to) _ before (plain_entry log (Get key etag from to) _ low e refl refl refl) (λ new new_is. (e, new_is)) refl refl refl)
+    (get_brief etag from to object ∙ ap (get_of etag from to) (sym is))
 
-get_keeps_own : (objects : BTreeMap (List ℕ) Object) (log : List Logged) (versions : ℕ) (key etag : List ℕ) (from to : ℕ) (said : Answer) → from < to → IsKept objects log versions
-    → said ≡ answer_of_get etag from to (tree.get (slice_cmp nat_cmp) objects key) → IsKept objects (with_entry log (Get key etag from to) (brief_of said)) versions
-get_keeps_own objects log versions key etag from to said low kept answers =
-    let P : Answer → Type 0 = λ a. IsLegalEntry log (entry_of (Get key etag from to) (brief_of a)) in
-    keeps_reading objects log versions (entry_of (Get key etag from to) (brief_of said)) kept refl refl (subst P (sym answers) (get_entry log key etag from to _ low (kept.stands key)))
-
-pub get_keeps : (objects : BTreeMap (List ℕ) Object) (log new : List Logged) (versions : ℕ) (key etag : List ℕ) (from to : ℕ) (said : Answer) → from < to → IsKept objects log versions
-    → said ≡ answer_of_get etag from to (tree.get (slice_cmp nat_cmp) objects key) → new ≡ with_entry log (Get key etag from to) (brief_of said) → IsKept objects new versions
-get_keeps objects log new versions key etag from to said low kept answers is =
-    let P : List Logged → Type 0 = λ l. IsKept objects l versions in
-    subst P (sym is) (get_keeps_own objects log versions key etag from to said low kept answers)
-
-get_serves : (old new : List Logged) (key etag : List ℕ) (from to : ℕ) (object : Option Object) (said : Answer) → object_at (replay old) key ≡ object → said ≡ answer_of_get etag from to object
-    → new ≡ with_entry old (Get key etag from to) (brief_of said) → Serves (Get key etag from to) old new (brief_of said)
-get_serves old new key etag from to object said is answers new_is =
-    let P : Answer → Type 0 = λ a. new ≡ with_entry old (Get key etag from to) (brief_of a) → Serves (Get key etag from to) old new (brief_of a) in
-    let Q : Answer → Type 0 = λ a. IsAnswer (replay old) (Get key etag from to) (brief_of a) → P a in
-    subst P (sym answers)
-    (by_answer Q etag from to object (λ e l. (e, l)) (λ e l. (e, l)) (λ bytes e l. (e, l)) (get_brief etag from to object ∙ ap (get_of etag from to) (sym is))) new_is
-
-pub get_served : (objects : BTreeMap (List ℕ) Object) (log new : List Logged) (versions place : ℕ) (key etag : List ℕ) (from to : ℕ) (said : Answer) → from < to → IsKept objects log versions
-    → said ≡ answer_of_get etag from to (tree.get (slice_cmp nat_cmp) objects key) → new ≡ with_entry log (Get key etag from to) (brief_of said) → place ≡ length log
-    → IsServed (Get key etag from to) log new place (brief_of said)
-get_served objects log new versions place key etag from to said low kept answers is at_end = record {
-  at_end = at_end;
-  served = get_serves log new key etag from to _ said (kept.stands key) answers is;
-  legal = (get_keeps objects log new versions key etag from to said low kept answers is).legal;
-}
+pub get_answered : (kept : Kept) (log : List Logged) (key etag : List ℕ) (from to : ℕ) (said : Answer) → from < to → IsKept kept log
+    → said ≡ answer_of_get etag from to (tree.get (slice_cmp nat_cmp) kept.objects key) → Answered kept kept log (Get key etag from to) (brief_of said)
+get_answered kept log key etag from to said low before answers =
+    let P : Answer → Type 0 = λ a. Answered kept kept log (Get key etag from to) (brief_of a) in
+    subst P (sym answers) (get_at kept log key etag from to _ low before (before.stands key))
 
 -- the bytes are those of the version
 slice_by_test : (versions : List ObjectVersion) (key etag : List ℕ) (from to : ℕ) (object : Object) (b : Bool) → has_range etag to object ≡ b → version_at versions key object.etag ≡ Some object.bytes
@@ -104,11 +81,11 @@ slice_of : (versions : List ObjectVersion) (key etag : List ℕ) (from to : ℕ)
 slice_of versions key etag from to None stands = tt
 slice_of versions key etag from to (Some object) stands = slice_by_test versions key etag from to object (has_range etag to object) refl (stands object refl)
 
-pub get_slice : (objects : BTreeMap (List ℕ) Object) (log new : List Logged) (versions : ℕ) (key etag : List ℕ) (from to : ℕ) (said : Answer) → IsKept objects log versions
-    → said ≡ answer_of_get etag from to (tree.get (slice_cmp nat_cmp) objects key) → new ≡ with_entry log (Get key etag from to) (brief_of said) → IsSlice (versions_of new) (Get key etag from to) said
-get_slice objects log new versions key etag from to said kept answers is =
-    let are : AreVersions (replay log) (versions_of log) = objects_are_versions log kept.legal in
+pub get_slice : (kept : Kept) (log new : List Logged) (key etag : List ℕ) (from to : ℕ) (said : Answer) → IsKept kept log
+    → said ≡ answer_of_get etag from to (tree.get (slice_cmp nat_cmp) kept.objects key) → new ≡ with_entry log (Get key etag from to) (brief_of said) → IsSlice (versions_of new) (Get key etag from to) said
+get_slice kept log new key etag from to said before answers is =
+    let are : AreVersions (replay log) (versions_of log) = objects_are_versions log before.legal in
     let P : Answer → Type 0 = λ a. IsSlice (versions_of log) (Get key etag from to) a in
     let Q : List ObjectVersion → Type 0 = λ vs. IsSlice vs (Get key etag from to) said in
-    subst Q (sym (ap versions_of is ∙ same_versions log (entry_of (Get key etag from to) (brief_of said)) refl))
-    (subst P (sym answers) (slice_of (versions_of log) key etag from to _ (λ o stands. are key o (kept.stands key ∙ stands))))
+    subst Q (sym (ap versions_of is ∙ versions_push log (entry_of (Get key etag from to) (brief_of said)) ∙ append-nil (versions_of log)))
+    (subst P (sym answers) (slice_of (versions_of log) key etag from to _ (λ o stands. are key o (before.stands key ∙ stands))))

@@ -1,9 +1,15 @@
 pub mod Adds
-pub mod Deletes
+pub mod Counts
 pub mod ETags
 pub mod First
 pub mod Gets
+pub mod Heads
+pub mod Joins
 pub mod Keeps
+pub mod Multipart
+pub mod Numbered
 pub mod Prefixes
+pub mod Puts
 pub mod Replay
+pub mod Staging
 pub mod Versions

@@ -12,13 +12,13 @@ use Rattle.std.proofs.lemmas.List.Folds.{find-append}
 use Rattle.std.proofs.lemmas.Slice.Eq.{bytes_eq-Decides}
 use Rattle.bucket_model.specs.declared.answer.Brief.{Brief}
 use Rattle.bucket_model.specs.declared.call.Call.{Call}
-use Rattle.bucket_model.specs.declared.call.Call.TheVariants.{Head, Probe, Get, Delete, Put}
+use Rattle.bucket_model.specs.declared.call.Call.TheVariants.{Head, Probe, Get, Delete, Put, Create, Part, Complete, Abort}
 use Rattle.bucket_model.specs.declared.history.Logged.{Logged}
 use Rattle.bucket_model.specs.declared.history.Name.{Name}
-use Rattle.bucket_model.specs.declared.history.Name.TheVariants.{Version}
+use Rattle.bucket_model.specs.declared.history.Name.TheVariants.{Version, Upload}
 use Rattle.bucket_model.specs.declared.history.Object.{Object}
 use Rattle.bucket_model.specs.Along.{Along}
-use Rattle.bucket_model.specs.Bucket.{BucketState, ObjectVersion, after, empty_bucket, is_version, object_at, version_at, version_made}
+use Rattle.bucket_model.specs.Bucket.{BucketState, ObjectVersion, Staged, after, after_call, completed, empty_bucket, is_version, object_at, upload_at, version_at, version_made, with_part, with_upload, with_version, without_upload}
 use Rattle.bucket_model.specs.History.{IsLegalEntry, IsLegalHistory, IsOneContent, replay, versions_of}
 use Rattle.mem_store.proofs.Replay.{replay_push, versions_push}
 
@@ -77,38 +77,70 @@ left false o object is = is
 same_key : (q key : List ℕ) → eq_by_cmp (slice_cmp nat_cmp) q key ≡ true → q ≡ key
 same_key q key is = slice_cmp-IsAntisymmetric nat_cmp-IsAntisymmetric q key ((Equal-is (slice_cmp nat_cmp q key)).0 is)
 
-put_stands : (state : BucketState) (versions : List ObjectVersion) (new : ObjectVersion) (q : List ℕ) (object : Object) (b : Bool) → eq_by_cmp (slice_cmp nat_cmp) q new.key ≡ b
+version_stands : (state : BucketState) (versions : List ObjectVersion) (new : ObjectVersion) (q : List ℕ) (object : Object) (b : Bool) → eq_by_cmp (slice_cmp nat_cmp) q new.key ≡ b
     → AreVersions state versions → IsOneContent versions new → cond b (Some (record { etag = new.etag; bytes = new.bytes })) (object_at state q) ≡ Some object
     → version_at (versions ++ new ∷ []) q object.etag ≡ Some object.bytes
-put_stands state versions new q object true at are one is =
+version_stands state versions new q object true at are one is =
     let made : Object = record { etag = new.etag; bytes = new.bytes } in
     let same : made ≡ object = cc in
     let P : List ℕ → Type 0 = λ k. version_at (versions ++ new ∷ []) k object.etag ≡ Some object.bytes in
     let Q : Object → Type 0 = λ o. version_at (versions ++ new ∷ []) new.key o.etag ≡ Some o.bytes in
     subst P (sym (same_key q new.key at)) (subst Q same (new_stands versions new one))
-put_stands state versions new q object false at are one is = first_stays versions (new ∷ []) q object.etag object.bytes (are q object is)
+version_stands state versions new q object false at are one is = first_stays versions (new ∷ []) q object.etag object.bytes (are q object is)
 
--- one more entry
-after_call : (state : BucketState) (versions : List ObjectVersion) (call : Call) (answer : Brief) (took : Bool) (made : Option Name)
+-- where a version was made, if one was
+after_version : (state : BucketState) (versions : List ObjectVersion) (made : Option ObjectVersion) → AreVersions state versions → ((new : ObjectVersion) → made ≡ Some new → IsOneContent versions new)
+    → AreVersions (with_version state made) (versions ++ option_to_list made)
+after_version state versions None are one = no_new state versions are
+after_version state versions (Some new) are one = λ q object is.
+    version_stands state versions new q object (eq_by_cmp (slice_cmp nat_cmp) q new.key) refl are (one new refl)
+    (sym (get-insert nat_list_cmp_total state.objects new.key (record { etag = new.etag; bytes = new.bytes }) q) ∙ is)
+
+after_complete : (state : BucketState) (versions : List ObjectVersion) (upload : ℕ) (made : Option ObjectVersion) → AreVersions state versions → ((new : ObjectVersion) → made ≡ Some new → IsOneContent versions new)
+    → AreVersions (completed state upload made) (versions ++ option_to_list made)
+after_complete state versions upload None are one = no_new state versions are
+after_complete state versions upload (Some new) are one = after_version (without_upload state upload) versions (Some new) are one
+
+after_create : (state : BucketState) (versions : List ObjectVersion) (key : List ℕ) (made : Option Name) → AreVersions state versions → AreVersions (with_upload state key made) versions
+after_create state versions key None are = are
+after_create state versions key (Some (Version etag)) are = are
+after_create state versions key (Some (Upload upload)) are = are
+
+after_part : (state : BucketState) (versions : List ObjectVersion) (upload number : ℕ) (bytes : List ℕ) (staged : Option Staged) → AreVersions state versions → AreVersions (with_part state upload number bytes staged) versions
+after_part state versions upload number bytes None are = are
+after_part state versions upload number bytes (Some staged) are = are
+
+-- a call that took effect
+after_taken : (state : BucketState) (versions : List ObjectVersion) (call : Call) (answer : Brief) (took : Bool) (made : Option Name)
     → AreVersions state versions
     → ((new : ObjectVersion) → version_made state (record { entry = record { call = call; answer = answer; took = took }; made = made }) ≡ Some new → IsOneContent versions new)
-    → AreVersions (after state (record { entry = record { call = call; answer = answer; took = took }; made = made })) (versions ++ option_to_list (version_made state (record { entry = record { call = call; answer = answer; took = took }; made = made })))
-after_call state versions (Head key) answer took made are one = no_new state versions are
-after_call state versions (Probe key) answer took made are one = no_new state versions are
-after_call state versions (Get key etag from to) answer took made are one = no_new state versions are
-after_call state versions (Delete key) answer false made are one = no_new state versions are
-after_call state versions (Delete key) answer true made are one = λ q object is.
+    → AreVersions (after_call state (record { entry = record { call = call; answer = answer; took = took }; made = made }))
+    (versions ++ option_to_list (version_made state (record { entry = record { call = call; answer = answer; took = took }; made = made })))
+after_taken state versions (Head key) answer took made are one = no_new state versions are
+after_taken state versions (Probe key) answer took made are one = no_new state versions are
+after_taken state versions (Get key etag from to) answer took made are one = no_new state versions are
+after_taken state versions (Delete key) answer took made are one = λ q object is.
     let stood = left (eq_by_cmp (slice_cmp nat_cmp) q key) (object_at state q) object (sym (get-remove nat_list_cmp_total state.objects key q) ∙ is) in
     first_stays versions [] q object.etag object.bytes (are q object stood)
-after_call state versions (Put key bytes) answer took None are one = no_new state versions are
-after_call state versions (Put key bytes) answer took (Some (Version etag)) are one = λ q object is.
-    let new : ObjectVersion = record { key = key; etag = etag; bytes = bytes } in
-    put_stands state versions new q object (eq_by_cmp (slice_cmp nat_cmp) q key) refl are (one new refl) (sym (get-insert nat_list_cmp_total state.objects key (record { etag = etag; bytes = bytes }) q) ∙ is)
+after_taken state versions (Put key bytes) answer took made are one = after_version state versions _ are one
+after_taken state versions (Create key) answer took made are one = no_new (with_upload state key made) versions (after_create state versions key made are)
+after_taken state versions (Part upload number bytes) answer took made are one = no_new (with_part state upload number bytes (upload_at state upload)) versions (after_part state versions upload number bytes (upload_at state upload) are)
+after_taken state versions (Complete upload parts) answer took made are one = after_complete state versions upload _ are one
+after_taken state versions (Abort upload) answer took made are one = no_new (without_upload state upload) versions are
+
+-- one more entry
+after_effect : (state : BucketState) (versions : List ObjectVersion) (call : Call) (answer : Brief) (took : Bool) (made : Option Name)
+    → AreVersions state versions
+    → ((new : ObjectVersion) → version_made state (record { entry = record { call = call; answer = answer; took = took }; made = made }) ≡ Some new → IsOneContent versions new)
+    → AreVersions (after state (record { entry = record { call = call; answer = answer; took = took }; made = made }))
+    (versions ++ option_to_list (version_made state (record { entry = record { call = call; answer = answer; took = took }; made = made })))
+after_effect state versions call answer true made are one = after_taken state versions call answer true made are one
+after_effect state versions call answer false made are one = λ key object is. first_stays versions _ key object.etag object.bytes (are key object is)
 
 after_entry : (state : BucketState) (versions : List ObjectVersion) (logged : Logged) → AreVersions state versions
     → ((new : ObjectVersion) → version_made state logged ≡ Some new → IsOneContent versions new)
     → AreVersions (after state logged) (versions ++ option_to_list (version_made state logged))
-after_entry state versions logged are one = after_call state versions logged.entry.call logged.entry.answer logged.entry.took logged.made are one
+after_entry state versions logged are one = after_effect state versions logged.entry.call logged.entry.answer logged.entry.took logged.made are one
 
 after_push : (past : List Logged) (logged : Logged) → AreVersions (replay past) (versions_of past) → IsLegalEntry past logged → AreVersions (replay (past ++ logged ∷ [])) (versions_of (past ++ logged ∷ []))
 after_push past logged are legal =

@@ -3,15 +3,15 @@ use Rattle.std.specs.Prelude.{◌≡◌, ℕ, ◌+◌, List, [], ◌∷◌, ◌+
 use Rattle.std.specs.BTreeMap as tree
 use Rattle.std.specs.Cmp.Lexicographic.{slice_cmp, pointwise}
 use Rattle.std.specs.Fmt.{decimal}
-use Rattle.std.specs.List.{starts_with, slice_range}
+use Rattle.std.specs.List.{filter_map, starts_with, slice_range}
 use Rattle.std.specs.Ordering.{nat_cmp}
 use Rattle.bucket_model.specs.declared.call.Call.{Call}
 use Rattle.bucket_model.specs.declared.answer.Answer.{Answer}
 use Rattle.bucket_model.specs.declared.answer.Answer.TheVariants as answer
 use Rattle.bucket_model.specs.declared.answer.Brief.{Brief}
-use Rattle.bucket_model.specs.declared.answer.Brief.TheVariants.{Found, Missing, Yes, No, Bytes, Changed, Gone, Made, Fault, NoMemory}
+use Rattle.bucket_model.specs.declared.answer.Brief.TheVariants.{Yes, No, Made, Upload, Fault, NoMemory}
 use Rattle.bucket_model.specs.declared.history.Name.{Name}
-use Rattle.bucket_model.specs.declared.history.Name.TheVariants.{Version}
+use Rattle.bucket_model.specs.declared.history.Name.TheVariants as name
 use Rattle.bucket_model.specs.declared.history.Logged.{Logged}
 use Rattle.bucket_model.specs.declared.history.Object.{Object}
 use Rattle.bucket_model.specs.Bucket.{IsAnswer}
@@ -23,16 +23,9 @@ etag_of_version number = 118 ∷ decimal number
 
 -- the name that an answer tells of
 abbrev pub made_by : Brief → Option Name
-made_by (Made etag) = Some (Version etag)
-made_by (Found etag size) = None
-made_by Missing = None
-made_by Yes = None
-made_by No = None
-made_by (Bytes count) = None
-made_by Changed = None
-made_by Gone = None
-made_by Fault = None
-made_by NoMemory = None
+made_by (Made etag) = Some (name.Version etag)
+made_by (Upload upload) = Some (name.Upload upload)
+made_by other = None
 
 -- the entry of an answered call
 abbrev pub entry_of : Call → Brief → Logged
@@ -57,19 +50,26 @@ abbrev pub answer_of_get : List ℕ → ℕ → ℕ → Option Object → Answer
 answer_of_get etag from to None = answer.Missing
 answer_of_get etag from to (Some object) = if pointwise nat_eq object.etag etag && nat_le to (length object.bytes) then answer.Bytes (slice_range object.bytes from to) else answer.Changed
 
--- want of memory leaves no entry, and a fault never comes
+-- the id in a name
+abbrev pub upload_in : Option Name → Option ℕ
+upload_in (Some (name.Upload upload)) = Some upload
+upload_in other = None
+
+-- the ids of all uploads made, in order
+abbrev pub uploads_made : List Logged → List ℕ
+uploads_made log = filter_map (λ logged. upload_in logged.made) log
+
+-- the answer is one that the log before it has, and the entry is added
+abbrev pub IsLogged : Call → List Logged → List Logged → Brief → Type 0
+IsLogged asked old new answer = IsAnswer (replay old) asked answer × (new ≡ old ++ entry_of asked answer ∷ [])
+
+-- want of memory leaves no entry, a fault never comes, and what is made has the next number
 abbrev pub Serves : Call → List Logged → List Logged → Brief → Type 0
 Serves asked old new NoMemory = new ≡ old
 Serves asked old new Fault = ⊥
-Serves asked old new (Found etag size) = IsAnswer (replay old) asked (Found etag size) × (new ≡ old ++ entry_of asked (Found etag size) ∷ [])
-Serves asked old new Missing = IsAnswer (replay old) asked Missing × (new ≡ old ++ entry_of asked Missing ∷ [])
-Serves asked old new Yes = IsAnswer (replay old) asked Yes × (new ≡ old ++ entry_of asked Yes ∷ [])
-Serves asked old new No = IsAnswer (replay old) asked No × (new ≡ old ++ entry_of asked No ∷ [])
-Serves asked old new (Bytes count) = IsAnswer (replay old) asked (Bytes count) × (new ≡ old ++ entry_of asked (Bytes count) ∷ [])
-Serves asked old new Changed = IsAnswer (replay old) asked Changed × (new ≡ old ++ entry_of asked Changed ∷ [])
-Serves asked old new Gone = IsAnswer (replay old) asked Gone × (new ≡ old ++ entry_of asked Gone ∷ [])
-Serves asked old new (Made etag) = IsAnswer (replay old) asked (Made etag) × (new ≡ old ++ entry_of asked (Made etag) ∷ [])
-    × (etag ≡ etag_of_version (length (versions_of old) + 1))
+Serves asked old new (Made etag) = IsLogged asked old new (Made etag) × (etag ≡ etag_of_version (length (versions_of old) + 1))
+Serves asked old new (Upload upload) = IsLogged asked old new (Upload upload) × (upload ≡ length (uploads_made old) + 1)
+Serves asked old new other = IsLogged asked old new other
 
 -- the call's answer is the one that the log before it has, and its entry stands at this place
 pub record IsServed (asked : Call) (old new : List Logged) (place : ℕ) (answer : Brief) : Type 0 where

@@ -4,6 +4,11 @@
 
 mod log;
 mod objects;
+mod parts;
 mod store;
+mod uploads;
 
 pub use store::MemStore;
+
+#[cfg(test)]
+mod tests;

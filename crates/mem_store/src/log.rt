@@ -9,6 +9,7 @@ fn name_made(answer: &Brief) -> Option<Name>
 {
     match answer {
         Brief::Made(etag) => Some(Name::Version(etag.copy())),
+        Brief::Upload(upload) => Some(Name::Upload(*upload)),
         _ => None,
     }
 }

@@ -1,6 +1,6 @@
-ghost use Rattle.std.specs.Prelude.{◌≡◌, ◌<◌, [], length, Some, IsOk, IfOk};
-ghost use Rattle.bucket_model.specs.declared.call.Call.TheVariants.{Head, Probe, Get, Delete, Put};
-ghost use Rattle.bucket_model.specs.Answers.{brief_of};
+ghost use Rattle.std.specs.Prelude.{◌≡◌, ◌<◌, ◌≤◌, [], length, Some, IsOk, IfOk};
+ghost use Rattle.bucket_model.specs.declared.call.Call.TheVariants.{Head, Probe, Get, Delete, Put, Create, Part, Complete, Abort};
+ghost use Rattle.bucket_model.specs.Answers.{brief_of, max_parts};
 ghost use Rattle.bucket_model.specs.Bucket.{IsSlice};
 ghost use Rattle.bucket_model.specs.History.{IsLegalHistory, versions_of};
 ghost use Rattle.mem_store.specs.Served.{IsServed, history_of};
@@ -10,6 +10,7 @@ use crate::log::add_entry;
 use crate::objects::{
     finds_below, get_answer, head_answer, probe_answer, put_version, remove_object,
 };
+use crate::uploads::Uploads;
 use bucket_model::{Answer, Call, Logged, Object};
 use bytes::Bytes;
 use mp_types::{ETag, Key, Text};
@@ -19,12 +20,15 @@ use std::marker::Model;
 use store_trait::Store;
 
 /// A bucket in memory, seen by contracts as its log, which grows with each answered call.
-/// Its n-th object version, from 1, has the ETag `v` and n in decimal.
+/// Its n-th object version, from 1, has the ETag `v` and n in decimal, and its n-th upload the id n.
 #[derive(Drop)]
 pub struct MemStore {
     objects: BTreeMap<Text, Object>,
+    uploads: Uploads,
     log: Vec<Logged>,
+    // How many object versions, and how many uploads, were made so far.
     versions: u64,
+    created: u64,
     alloc: Global,
 }
 
@@ -37,7 +41,7 @@ impl Model for MemStore {
 
     ghost view = { λ a. a.log.items };
 
-    ghost invariant = { λ a. IsKept a.objects a.log.items a.versions };
+    ghost invariant = { λ a. IsKept (record { objects = a.objects; uploads = a.uploads; versions = a.versions; created = a.created }) a.log.items };
 }
 
 impl MemStore {
@@ -49,8 +53,10 @@ impl MemStore {
     {
         Ok(MemStore {
             objects: BTreeMap::new(alloc),
+            uploads: Uploads::new(alloc),
             log: Vec::new(alloc),
             versions: 0,
+            created: 0,
             alloc,
         })
     }
@@ -140,6 +146,91 @@ impl MemStore {
         add_entry(&mut self.log, Call::Put { key, bytes }, &answer);
         (place, answer)
     }
+
+    fn create(&mut self, key: Key) -> (u64, Answer)
+        ensures { IsServed (Create key) self.old self.new result.0 (brief_of result.1) }
+    {
+        let place = self.log.len() as u64;
+        match self.log.reserve(1) {
+            Ok(()) => {}
+            Err(_) => return (place, Answer::NoMemory),
+        }
+        let upload = self.created + 1;
+        match self.uploads.create(self.alloc, upload, &key) {
+            Ok(()) => {}
+            Err(_) => return (place, Answer::NoMemory),
+        }
+        self.created = upload;
+        let answer = Answer::Upload(upload);
+        add_entry(&mut self.log, Call::Create { key }, &answer);
+        (place, answer)
+    }
+
+    fn part(&mut self, upload: u64, number: u32, bytes: Bytes) -> (u64, Answer)
+        requires low { 1 ≤ number }
+        requires high { number ≤ max_parts }
+        ensures { IsServed (Part upload number bytes) self.old self.new result.0 (brief_of result.1) }
+    {
+        let place = self.log.len() as u64;
+        match self.log.reserve(1) {
+            Ok(()) => {}
+            Err(_) => return (place, Answer::NoMemory),
+        }
+        let answer = match self.uploads.put_part(upload, number, &bytes) {
+            Ok(answer) => answer,
+            Err(_) => return (place, Answer::NoMemory),
+        };
+        let call = Call::Part {
+            upload,
+            number,
+            bytes,
+        };
+        add_entry(&mut self.log, call, &answer);
+        (place, answer)
+    }
+
+    fn complete(&mut self, upload: u64, parts: u32) -> (u64, Answer)
+        requires { 1 ≤ parts }
+        ensures { IsServed (Complete upload parts) self.old self.new result.0 (brief_of result.1) }
+    {
+        let place = self.log.len() as u64;
+        match self.log.reserve(1) {
+            Ok(()) => {}
+            Err(_) => return (place, Answer::NoMemory),
+        }
+        let call = Call::Complete { upload, parts };
+        let number = self.versions + 1;
+        match self
+            .uploads
+            .complete(&mut self.objects, self.alloc, upload, parts, number)
+        {
+            Ok(Some(etag)) => {
+                self.versions = number;
+                let answer = Answer::Made(etag);
+                add_entry(&mut self.log, call, &answer);
+                (place, answer)
+            }
+            Ok(None) => {
+                let answer = Answer::NoUpload;
+                add_entry(&mut self.log, call, &answer);
+                (place, answer)
+            }
+            Err(_) => (place, Answer::NoMemory),
+        }
+    }
+
+    fn abort(&mut self, upload: u64) -> (u64, Answer)
+        ensures { IsServed (Abort upload) self.old self.new result.0 (brief_of result.1) }
+    {
+        let place = self.log.len() as u64;
+        match self.log.reserve(1) {
+            Ok(()) => {}
+            Err(_) => return (place, Answer::NoMemory),
+        }
+        let answer = self.uploads.abort(upload);
+        add_entry(&mut self.log, Call::Abort { upload }, &answer);
+        (place, answer)
+    }
 }
 
 impl Store for MemStore {
@@ -167,6 +258,14 @@ impl Store for MemStore {
             } => self.get(key, etag, from, to),
             Call::Delete { key } => self.delete(key),
             Call::Put { key, bytes } => self.put(key, bytes),
+            Call::Create { key } => self.create(key),
+            Call::Part {
+                upload,
+                number,
+                bytes,
+            } => self.part(upload, number, bytes),
+            Call::Complete { upload, parts } => self.complete(upload, parts),
+            Call::Abort { upload } => self.abort(upload),
         }
     }
 
@@ -177,147 +276,4 @@ impl Store for MemStore {
     ghost position_is = { position_is };
 
     ghost honest_is_legal = { honest_is_legal };
-}
-
-#[cfg(test)]
-mod tests {
-    use super::*;
-    use bucket_model::Brief;
-    use mp_types::ETag;
-    use std::test::Fail;
-
-    fn head(store: &mut MemStore, alloc: Global, key: &str) -> Result<(u64, Brief), Fail> {
-        let key = Key::parse(alloc, key)?;
-        let (place, answer) = store.call(Call::Head { key });
-        Ok((place, answer.brief()))
-    }
-
-    fn probe(store: &mut MemStore, alloc: Global, key: &str) -> Result<(u64, Brief), Fail> {
-        let key = Key::parse(alloc, key)?;
-        let (place, answer) = store.call(Call::Probe { key });
-        Ok((place, answer.brief()))
-    }
-
-    fn get(
-        store: &mut MemStore,
-        alloc: Global,
-        key: &str,
-        etag: &str,
-        from: u64,
-        to: u64,
-    ) -> Result<(u64, Answer), Fail>
-        requires { from < to }
-    {
-        let key = Key::parse(alloc, key)?;
-        let etag = ETag::parse(etag)?;
-        Ok(store.call(Call::Get {
-            key,
-            etag,
-            from,
-            to,
-        }))
-    }
-
-    fn brings(answer: &Answer, wanted: &[u8]) -> bool {
-        match answer {
-            Answer::Bytes(bytes) => bytes.as_slice() == wanted,
-            _ => false,
-        }
-    }
-
-    fn delete(store: &mut MemStore, alloc: Global, key: &str) -> Result<(u64, Brief), Fail> {
-        let key = Key::parse(alloc, key)?;
-        let (place, answer) = store.call(Call::Delete { key });
-        Ok((place, answer.brief()))
-    }
-
-    fn put(
-        store: &mut MemStore,
-        alloc: Global,
-        key: &str,
-        bytes: &[u8],
-    ) -> Result<(u64, Brief), Fail> {
-        let key = Key::parse(alloc, key)?;
-        let bytes = Bytes::from_vec(Vec::from_slice(alloc, bytes)?)?;
-        let (place, answer) = store.call(Call::Put { key, bytes });
-        Ok((place, answer.brief()))
-    }
-
-    fn found(etag: &str, size: u64) -> Result<Brief, Fail> {
-        let etag = ETag::parse(etag)?;
-        Ok(Brief::Found { etag, size })
-    }
-
-    #[test]
-    fn calls_are_answered_by_what_was_put(rt: HostRuntime) -> Result<(), Fail> {
-        let alloc = rt.alloc();
-        let mut store = MemStore::new(alloc)?;
-        assert_eq!(rt; head(&mut store, alloc, "a")?, (0, Brief::Missing));
-        assert_eq!(rt;
-            put(&mut store, alloc, "a", b"hello")?,
-            (1, Brief::Made(ETag::parse("v1")?))
-        );
-        assert_eq!(rt; head(&mut store, alloc, "a")?, (2, found("v1", 5)?));
-        assert_eq!(rt; probe(&mut store, alloc, "a")?, (3, Brief::No));
-        assert_eq!(rt;
-            put(&mut store, alloc, "a/b", b"")?,
-            (4, Brief::Made(ETag::parse("v2")?))
-        );
-        assert_eq!(rt; probe(&mut store, alloc, "a")?, (5, Brief::Yes));
-        assert_eq!(rt; probe(&mut store, alloc, "b")?, (6, Brief::No));
-        assert_eq!(rt;
-            put(&mut store, alloc, "a", b"new")?,
-            (7, Brief::Made(ETag::parse("v3")?))
-        );
-        assert_eq!(rt; head(&mut store, alloc, "a")?, (8, found("v3", 3)?));
-        assert_eq!(rt; store.mark(), 9);
-        Ok(())
-    }
-
-    #[test]
-    fn a_get_brings_bytes_of_its_version_alone(rt: HostRuntime) -> Result<(), Fail> {
-        let alloc = rt.alloc();
-        let mut store = MemStore::new(alloc)?;
-        put(&mut store, alloc, "a", b"hello")?;
-        let (place, part) = get(&mut store, alloc, "a", "v1", 1, 4)?;
-        assert_eq!(rt; (place, part.brief()), (1, Brief::Bytes { length: 3 }));
-        let (place, whole) = get(&mut store, alloc, "a", "v1", 0, 5)?;
-        assert_eq!(rt; (place, whole.brief()), (2, Brief::Bytes { length: 5 }));
-        let (_, past_end) = get(&mut store, alloc, "a", "v1", 4, 6)?;
-        assert_eq!(rt; past_end.brief(), Brief::Changed);
-        let (_, missing) = get(&mut store, alloc, "b", "v1", 0, 1)?;
-        assert_eq!(rt; missing.brief(), Brief::Missing);
-        put(&mut store, alloc, "a", b"other")?;
-        let (_, changed) = get(&mut store, alloc, "a", "v1", 1, 4)?;
-        assert_eq!(rt; changed.brief(), Brief::Changed);
-        let (_, other) = get(&mut store, alloc, "a", "v2", 1, 4)?;
-        assert!(rt; brings(&other, b"the"));
-        // What a get brought stays as it was.
-        assert!(rt; brings(&part, b"ell"));
-        assert!(rt; brings(&whole, b"hello"));
-        Ok(())
-    }
-
-    #[test]
-    fn a_delete_leaves_no_object(rt: HostRuntime) -> Result<(), Fail> {
-        let alloc = rt.alloc();
-        let mut store = MemStore::new(alloc)?;
-        put(&mut store, alloc, "a", b"hello")?;
-        put(&mut store, alloc, "b/c", b"")?;
-        assert_eq!(rt; delete(&mut store, alloc, "a")?, (2, Brief::Gone));
-        assert_eq!(rt; delete(&mut store, alloc, "a")?, (3, Brief::Gone));
-        assert_eq!(rt; head(&mut store, alloc, "a")?, (4, Brief::Missing));
-        let (_, gone) = get(&mut store, alloc, "a", "v1", 0, 1)?;
-        assert_eq!(rt; gone.brief(), Brief::Missing);
-        assert_eq!(rt; probe(&mut store, alloc, "b")?, (6, Brief::Yes));
-        assert_eq!(rt; delete(&mut store, alloc, "b/c")?, (7, Brief::Gone));
-        assert_eq!(rt; probe(&mut store, alloc, "b")?, (8, Brief::No));
-        assert_eq!(rt;
-            put(&mut store, alloc, "a", b"new")?,
-            (9, Brief::Made(ETag::parse("v3")?))
-        );
-        assert_eq!(rt; head(&mut store, alloc, "a")?, (10, found("v3", 3)?));
-        assert_eq!(rt; store.mark(), 11);
-        Ok(())
-    }
 }

@@ -1,125 +1,109 @@
 -- One event of a core is one legal step of its record.
-use Rattle.std.proofs.Common.{◌≡◌, ℕ, ◌+◌, ◌<◌, List, [], ◌∷◌, ◌++◌, map, length, fold, Option, Some, None, refl, sym, ap, ◌∙◌, subst, length-append}
+use Rattle.std.proofs.Common.{◌≡◌, ℕ, ◌<◌, List, [], ◌∷◌, ◌++◌, map, length, refl, sym, ap, ◌∙◌, subst}
 use Rattle.std.specs.List.{AllByRecursion}
-use Rattle.std.proofs.lemmas.List.Sums.{fold_push, fold-append}
-use Rattle.std.proofs.lemmas.List.{length-map}
+use Rattle.std.proofs.lemmas.List.Sums.{fold_push}
 use Rattle.bucket_model.proofs.Along.{Along-push}
 use Rattle.mp_types.specs.declared.options.Opts.{Opts}
+use Rattle.mp_types.specs.Options.{AreWithin}
 use Rattle.mount_model.specs.declared.request.Line.{Line}
+use Rattle.mount_model.specs.declared.request.Request.{Request}
+use Rattle.mount_model.specs.declared.request.Request.TheVariants as request
 use Rattle.mount_model.specs.declared.event.Event.{Event}
-use Rattle.mount_model.specs.declared.event.Ask.{Ask}
-use Rattle.mount_model.specs.declared.event.AskedCall.{AskedCall}
 use Rattle.mount_model.specs.declared.event.Answered.{Answered}
-use Rattle.mount_model.specs.declared.request.Reply.{Reply}
-use Rattle.mount_model.specs.declared.request.Reply.TheVariants as reply
+use Rattle.mount_model.specs.declared.standing.Heard.{Heard}
+use Rattle.mount_model.specs.declared.standing.Phase.{Phase}
+use Rattle.mount_model.specs.declared.standing.Phase.TheVariants.{Waiting, Begun, Replied}
 use Rattle.mount_model.specs.declared.standing.Standing.{Standing}
-use Rattle.mount_model.specs.declared.standing.Told.{Told}
-use Rattle.mount_model.specs.Heard.{question_of}
-use Rattle.mount_model.specs.Step.{Step, step_of, change_last}
-use Rattle.mount_model.specs.State.{ClientState, Job, JobPhase, Ready, Out, Gone, opening, after, state_after, Shared, lines_at, line_of, jobs_at, jobs_asked, time_after, with_replies, with_answered, with_effect, shared_after, whole_call, job_of, change_line, next_at}
+use Rattle.mount_model.specs.Step.{Step, step_of, HasStep}
+use Rattle.mount_model.specs.State.{ClientState, Turn, opening, after, state_after, Shared, lines_at, jobs_at, jobs_asked, jobs_after, time_after, with_replies, shared_after, turn_at}
 use Rattle.mount_model.specs.Reads.{GivesOnly}
-use Rattle.mount_model.specs.Run.{IsLegalStep, IsRunSoFar, MayCome, TurnOf, TakesTurn, turn_of, turn_at, owner_at, due_awaits, AreRising}
-use Rattle.job_table.specs.LiveJobs.{LiveJobs, Held, held_of}
-use Rattle.run_laws.specs.Alive.{IsAlive}
+use Rattle.mount_model.specs.Run.{IsLegalStep, IsRunSoFar, MayCome, TakesTurn, due_awaits, AreRising}
+use Rattle.job_table.specs.LiveJobs.{LiveJobs, held_of}
 use Rattle.run_laws.specs.Work.{work_left}
-use Rattle.run_laws.proofs.Handles.{effect-await}
-use Rattle.run_laws.proofs.Spared.{IsAwaited, due-here, all-append, all-more}
+use Rattle.run_laws.proofs.Keyed.{all-append}
+use Rattle.run_laws.proofs.Lines.{with_replies-append}
 use Rattle.mount_core.specs.declared.work.Work.{Work}
 use Rattle.mount_core.specs.Shared.{shared_in}
-use Rattle.mount_core.specs.Turn.{heard_last, with_turn, held_for, GoesOn, Answers}
+use Rattle.mount_core.specs.Turn.{AreAll, Holds, gone_with, Answers, Takes}
 use Rattle.mount_core.specs.Core.{state_of, Advances, IsCore, core_of}
-use Rattle.mount_core.proofs.Steps.{with_turn-begun}
+use Rattle.mount_core.proofs.Steps.{steps-more, steps-begun}
 
-held_of-append : (xs ys : List Job) → held_of (xs ++ ys) ≡ held_of xs ++ held_of ys
-held_of-append [] ys = refl
-held_of-append (job ∷ xs) ys = by_phase job.phase refl (held_of-append xs ys)
+-- awaits give no data
+awaits-give : (bytes : List ℕ) (lines : List Standing) → AllByRecursion (GivesOnly bytes) (due_awaits lines)
+awaits-give bytes [] = tt
+awaits-give bytes (s ∷ lines) = by_phase s.phase refl (awaits-give bytes lines)
   where
-    by_phase : (p : JobPhase) → job.phase ≡ p → held_of (xs ++ ys) ≡ held_of xs ++ held_of ys → held_of (job ∷ (xs ++ ys)) ≡ held_of (job ∷ xs) ++ held_of ys
-    by_phase Ready e below = rw e (ap (λ t. record { number = job.number; line = job.line; call = Some job.call; question = question_of job.call } ∷ t) below)
-    by_phase (Out from) e below = rw e (ap (λ t. record { number = job.number; line = job.line; call = None; question = question_of job.call } ∷ t) below)
-    by_phase Gone e below = rw e below
+    by_request : (before : Heard) → s.phase ≡ Begun before → (r : Request) → s.line.request ≡ r → AllByRecursion (GivesOnly bytes) (due_awaits lines) → AllByRecursion (GivesOnly bytes) (due_awaits (s ∷ lines))
+    by_request before e request.Await is below = rw (e, is) (tt, below)
+    by_request before e (request.Put key content) is below = rw (e, is) tt
+    by_request before e (request.Stat path) is below = rw (e, is) tt
+    by_request before e (request.OpenRead name path) is below = rw (e, is) tt
+    by_request before e (request.OpenWrite name path) is below = rw (e, is) tt
+    by_request before e (request.OpenTruncate name path) is below = rw (e, is) tt
+    by_request before e (request.Read name offset count) is below = rw (e, is) tt
+    by_request before e (request.Write name offset content) is below = rw (e, is) tt
+    by_request before e (request.Sync name) is below = rw (e, is) tt
+    by_request before e (request.Close name) is below = rw (e, is) tt
+    by_request before e (request.Delete key) is below = rw (e, is) tt
+    by_request before e (request.MakeDir path) is below = rw (e, is) tt
+    by_request before e (request.RemoveDir path) is below = rw (e, is) tt
+    by_request before e (request.Unlink path) is below = rw (e, is) tt
 
--- jobs that are asked for are held, with their calls
-held_of-asked : (lines others : List Standing) (n : ℕ) (asks : List Ask) → ((a : AskedCall) → whole_call others n a ≡ whole_call lines n a) → held_of (map (job_of lines n) asks) ≡ map (held_for others n) asks
-held_of-asked lines others n [] same = refl
-held_of-asked lines others n (ask ∷ asks) same = rw (same ask.call, held_of-asked lines others n asks same) refl
+    by_phase : (p : Phase) → s.phase ≡ p → AllByRecursion (GivesOnly bytes) (due_awaits lines) → AllByRecursion (GivesOnly bytes) (due_awaits (s ∷ lines))
+    by_phase Waiting e below = rw e tt
+    by_phase (Begun before) e below = by_request before e s.line.request refl below
+    by_phase Replied e below = rw e below
 
--- awaits change nothing of what lines see
-awaits-keep : (before : Shared) (lines : List Standing) (shared : Shared) (replies : List Answered) → AllByRecursion (IsAwaited lines) replies → fold (with_effect before lines) shared replies ≡ shared
-awaits-keep before lines shared [] all = refl
-awaits-keep before lines shared (r ∷ replies) all =
-    let is = all.0 in
-    let one : with_effect before lines shared r ≡ shared = effect-await before lines r is.standing is.stands is.awaits is.said shared in
-    ap (λ (t : Shared). fold (with_effect before lines) t replies) one ∙ awaits-keep before lines shared replies all.1
-
--- and give no data
-await-gives : (bytes : List ℕ) (lines : List Standing) (r : Answered) → IsAwaited lines r → GivesOnly bytes r
-await-gives bytes lines r is = by_reply r.line r.reply is.said
-  where
-    by_reply : (n : ℕ) (said : Reply) → said ≡ reply.Success → GivesOnly bytes (record { line = n; reply = said })
-    by_reply n said e = subst (λ (x : Reply). GivesOnly bytes (record { line = n; reply = x })) (sym e) tt
-
--- A line's turn behind an event makes one legal step.
+-- A turn behind an event makes one legal step.
 pub record TurnDone (state : ClientState) (event : Event) (bytes : List ℕ) (before : List Step) (begun new : Work) : Type 0 where
   pub step : Step
   pub steps : new.record.steps ≡ before ++ step ∷ []
   pub event_is : step.event ≡ event
   pub legal : IsLegalStep state step
   pub lines : new.lines ≡ with_replies (lines_at state.lines state.jobs event) step.replies
-  pub held : new.jobs.held ≡ begun.jobs.held ++ held_of (jobs_asked state.lines (line_of state.jobs event) step.asks)
-  pub count : new.jobs.count ≡ begun.jobs.count + length (jobs_asked state.lines (line_of state.jobs event) step.asks)
+  pub jobs : Holds new.jobs (jobs_after state.jobs step (turn_at state step.event))
   pub time : new.time ≡ begun.time
   pub options : new.options ≡ begun.options
-  pub shared : shared_in new ≡ shared_after state.shared (lines_at state.lines state.jobs event) step.replies
+  pub shared : shared_in new ≡ shared_after (turn_at state step.event) step state.shared
   pub gives : AllByRecursion (GivesOnly bytes) step.replies
 
-pub turn_done : (state : ClientState) (event : Event) (n : ℕ) (last : Option Told) (bytes : List ℕ) (before : List Step) (begun turned new : Work) →
-    IsAlive state →
+pub turn_done : (state : ClientState) (event : Event) (turn : Turn) (lines : List Standing) (bytes : List ℕ) (before : List Step) (begun turned new : Work) →
     begun.record.steps ≡ before ++ step_of event ∷ [] →
-    line_of state.jobs event ≡ Some n →
-    lines_at state.lines state.jobs event ≡ change_line n (heard_last last) begun.lines →
-    ((a : AskedCall) → whole_call begun.lines n a ≡ whole_call state.lines n a) →
-    begun.jobs.count ≡ length state.jobs →
+    turn_at state event ≡ turn →
+    lines_at state.lines state.jobs event ≡ lines →
+    AreAll begun.jobs (jobs_at state.jobs event) →
+    length (jobs_at state.jobs event) ≡ length state.jobs →
     MayCome state event →
     shared_in begun ≡ state.shared →
-    GoesOn n last bytes begun turned →
+    Takes turn lines bytes begun turned →
     Answers (due_awaits turned.lines) turned new →
     shared_in new ≡ shared_in turned →
     TurnDone state event bytes before begun new
-turn_done state event n last bytes before begun turned new is_alive steps whose lines same count may seen goes answers kept =
-    let LE : List Standing = change_line n (heard_last last) begun.lines in
-    let due : List Answered = due_awaits (with_replies LE goes.own) in
-    let due_is : due_awaits turned.lines ≡ due = ap due_awaits goes.lines in
-    let whole : Step = record { event = event; drops = []; asks = goes.asks; replies = goes.own ++ due } in
-    let turn : turn_at state event ≡ TurnOf n (owner_at state.shared n LE) (next_at state.shared n LE) = ap (λ (o : Option ℕ). turn_of state.shared o (lines_at state.lines state.jobs event)) whose ∙ ap (λ (l : List Standing). TurnOf n (owner_at state.shared n l) (next_at state.shared n l)) lines in
-    let taken : TakesTurn (begun.jobs.count + 1) (TurnOf n (owner_at state.shared n LE) (next_at state.shared n LE)) goes.asks goes.own = subst (λ (t : Shared). TakesTurn (begun.jobs.count + 1) (TurnOf n (owner_at t n LE) (next_at t n LE)) goes.asks goes.own) seen goes.turn in
-    let all_steps : new.record.steps ≡ before ++ whole ∷ [] =
-    answers.steps ∙ (ap (λ d. change_last (with_turn [] d) turned.record.steps) due_is
-    ∙ (ap (change_last (with_turn [] due)) (goes.steps ∙ ap (change_last (with_turn goes.asks goes.own)) steps)
-    ∙ with_turn-begun goes.asks goes.own due before event)) in
-    let legal : IsLegalStep state whole = record {
-      may_come = may;
-      drops = refl;
-      own = goes.own;
-      turn = subst (λ t. TakesTurn (length state.jobs + 1) t goes.asks goes.own) (sym turn) (subst (λ c. TakesTurn (c + 1) (TurnOf n (owner_at state.shared n LE) (next_at state.shared n LE)) goes.asks goes.own) count taken);
-      replies = ap (λ l. goes.own ++ due_awaits (with_replies l goes.own)) (sym lines);
-    } in
-    let awaited : AllByRecursion (IsAwaited LE) due = subst (λ (l : List Standing). AllByRecursion (IsAwaited l) (due_awaits (with_replies l goes.own))) lines (due-here state whole is_alive legal) in
-    let asked : jobs_asked state.lines (line_of state.jobs event) goes.asks ≡ map (job_of state.lines n) goes.asks = ap (λ (o : Option ℕ). jobs_asked state.lines o goes.asks) whose in
-    let effect : shared_after state.shared LE (goes.own ++ due) ≡ shared_after state.shared LE goes.own = fold-append (with_effect state.shared LE) state.shared goes.own due ∙ awaits-keep state.shared LE (shared_after state.shared LE goes.own) due awaited in
-    let all_effect : shared_after state.shared (lines_at state.lines state.jobs event) (goes.own ++ due) ≡ shared_after state.shared LE goes.own = ap (λ (l : List Standing). shared_after state.shared l (goes.own ++ due)) lines ∙ effect in
+turn_done state event turn lines bytes before begun turned new steps turn_is lines_are all len may seen takes answers kept =
+    let due : List Answered = due_awaits (with_replies lines takes.own) in
+    let due_is : due_awaits turned.lines ≡ due = ap due_awaits takes.replied in
+    let awaits : Answers due turned new = subst (λ (d : List Answered). Answers d turned new) due_is answers in
+    let whole : Step = record { event = event; drops = takes.drops; asks = takes.asks; replies = takes.own ++ due } in
+    let has : HasStep begun.record.steps = record { before = before; last = step_of event; are = steps } in
+    let all_steps : new.record.steps ≡ before ++ whole ∷ [] = steps-begun takes.drops takes.asks (takes.own ++ due) before begun.record.steps new.record.steps event steps (steps-more takes.drops takes.asks takes.own due begun.record.steps turned.record.steps new.record.steps has takes.steps awaits.steps) in
+    let holds : Holds turned.jobs (gone_with (jobs_at state.jobs event ++ jobs_asked whole turn) takes.drops) = takes.jobs whole (jobs_at state.jobs event) refl refl all in
+    let back : turn ≡ turn_at state event = sym turn_is in
     record {
       step = whole;
       steps = all_steps;
       event_is = refl;
-      legal = legal;
-      lines = answers.lines ∙ (ap (with_replies turned.lines) due_is ∙ (ap (λ l. with_replies l due) goes.lines ∙ (sym (fold-append with_answered LE goes.own due) ∙ ap (λ l. with_replies l (goes.own ++ due)) (sym lines))));
-      held = ap (λ (j : LiveJobs). j.held) (answers.jobs ∙ goes.jobs) ∙ ap (λ (more : List Held). begun.jobs.held ++ more) (sym (ap held_of asked ∙ held_of-asked state.lines begun.lines n goes.asks same));
-      count = ap (λ (j : LiveJobs). j.count) (answers.jobs ∙ goes.jobs) ∙ ap (λ c. begun.jobs.count + c) (sym (ap length asked ∙ length-map goes.asks (job_of state.lines n)));
-      time = answers.time ∙ goes.time;
-      options = ap (λ (t : Shared). t.options) kept ∙ goes.options;
-      shared = kept ∙ (goes.shared ∙ (ap (λ (t : Shared). shared_after t LE goes.own) seen ∙ sym all_effect));
-      gives = all-append (GivesOnly bytes) goes.own due goes.gives (all-more (IsAwaited LE) (GivesOnly bytes) (await-gives bytes LE) due awaited);
+      legal = record {
+        may_come = may;
+        own = takes.own;
+        turn = subst (λ (t : Turn). TakesTurn state whole t takes.own) back (takes.legal state whole refl refl all len);
+        replies = ap (λ l. takes.own ++ due_awaits (with_replies l takes.own)) (sym lines_are);
+      };
+      lines = awaits.lines ∙ (ap (λ l. with_replies l due) takes.replied ∙ (sym (with_replies-append lines takes.own due) ∙ ap (λ l. with_replies l (takes.own ++ due)) (sym lines_are)));
+      jobs = subst (λ (j : LiveJobs). Holds j (jobs_after state.jobs whole (turn_at state event))) (sym awaits.jobs) (subst (λ (t : Turn). Holds turned.jobs (gone_with (jobs_at state.jobs event ++ jobs_asked whole t) takes.drops)) back holds);
+      time = awaits.time ∙ takes.time;
+      options = ap (λ (t : Shared). t.options) kept ∙ takes.options;
+      shared = kept ∙ (takes.shared whole (jobs_at state.jobs event) due all refl refl refl ∙ (ap (shared_after turn whole) seen ∙ ap (λ (t : Turn). shared_after t whole state.shared) back));
+      gives = all-append (GivesOnly bytes) takes.own due takes.gives (awaits-give bytes (with_replies lines takes.own));
     }
 
 -- The state behind the record with that step.
@@ -141,24 +125,20 @@ pub core_goes_on : (old : Work) (event : Event) (bytes : List ℕ) (begun new : 
     map (λ s. s.line) new.lines ≡ map (λ s. s.line) old.lines →
     begun.options ≡ old.options →
     begun.time ≡ time_after (state_of (core_of old)).time event →
-    begun.jobs.held ≡ held_of (jobs_at (state_of (core_of old)).jobs event) →
-    begun.jobs.count ≡ length (jobs_at (state_of (core_of old)).jobs event) →
     IsCore new (core_of new)
-core_goes_on old event bytes begun new core done script same time held count =
+core_goes_on old event bytes begun new core done script same time =
     let s0 : ClientState = state_of (core_of old) in
     let script0 : List Line = map (λ s. s.line) old.lines in
     let is : state_of (core_of new) ≡ after s0 done.step = state_goes_on old event bytes begun new done script same in
-    let asked : Event → List Job = λ e. jobs_asked s0.lines (line_of s0.jobs e) done.step.asks in
-    let held_now : new.jobs.held ≡ held_of (jobs_at s0.jobs event ++ asked event) = done.held ∙ (ap (λ (h : List Held). h ++ held_of (asked event)) held ∙ sym (held_of-append (jobs_at s0.jobs event) (asked event))) in
-    let count_now : new.jobs.count ≡ length (jobs_at s0.jobs event ++ asked event) = done.count ∙ (ap (λ c. c + length (asked event)) count ∙ sym (length-append (jobs_at s0.jobs event) (asked event))) in
     record {
+      within = subst AreWithin (sym (done.options ∙ same)) core.within;
       rising = subst (AreRising 0) (sym script) core.rising;
       so_far = subst (λ (o : Opts). IsRunSoFar o (map (λ s. s.line) new.lines) new.record.steps) (sym (done.options ∙ same)) (subst (λ w. IsRunSoFar old.options w new.record.steps) (sym script) (subst (IsRunSoFar old.options script0) (sym done.steps) (Along-push IsLegalStep after (opening old.options script0) old.record.steps done.step core.so_far done.legal)));
       time = done.time ∙ (time ∙ (ap (time_after s0.time) (sym done.event_is) ∙ ap (λ (s : ClientState). s.time) (sym is)));
       lines = done.lines ∙ (ap (λ e. with_replies (lines_at s0.lines s0.jobs e) done.step.replies) (sym done.event_is) ∙ ap (λ (s : ClientState). s.lines) (sym is));
-      held = held_now ∙ (ap (λ e. held_of (jobs_at s0.jobs e ++ asked e)) (sym done.event_is) ∙ ap (λ (s : ClientState). held_of s.jobs) (sym is));
-      count = count_now ∙ (ap (λ e. length (jobs_at s0.jobs e ++ asked e)) (sym done.event_is) ∙ ap (λ (s : ClientState). length s.jobs) (sym is));
-      shared = done.shared ∙ (ap (λ e. shared_after s0.shared (lines_at s0.lines s0.jobs e) done.step.replies) (sym done.event_is) ∙ ap (λ (s : ClientState). s.shared) (sym is));
+      held = done.jobs.held ∙ ap (λ (s : ClientState). held_of s.jobs) (sym is);
+      count = done.jobs.count ∙ ap (λ (s : ClientState). length s.jobs) (sym is);
+      shared = done.shared ∙ ap (λ (s : ClientState). s.shared) (sym is);
     }
 
 -- and the record has one step more

@@ -1,11 +1,8 @@
 -- Lines changed by number.
 use Rattle.std.proofs.Common.{◌≡◌, ℕ, Bool, true, false, eqb, List, [], ◌∷◌, map, Some, refl, ap}
-use Rattle.bucket_model.specs.declared.call.Call.TheVariants as call
 use Rattle.mount_model.specs.declared.standing.Phase.{Phase}
 use Rattle.mount_model.specs.declared.standing.Standing.{Standing}
-use Rattle.mount_model.specs.declared.event.AskedCall.{AskedCall}
-use Rattle.mount_model.specs.declared.event.AskedCall.TheVariants as asked
-use Rattle.mount_model.specs.State.{line_at, change_line, content_of, whole_call}
+use Rattle.mount_model.specs.State.{line_at, change_line}
 
 abbrev with_phase : (Phase → Phase) → Standing → Standing
 with_phase f s = record { line = s.line; phase = f s.phase }
@@ -44,20 +41,3 @@ lines-change n f (s ∷ lines) = at_one (eqb s.line.number n) refl (lines-change
     at_one : (b : Bool) → eqb s.line.number n ≡ b → map (λ s. s.line) (change_line n f lines) ≡ map (λ s. s.line) lines → map (λ s. s.line) (change_line n f (s ∷ lines)) ≡ map (λ s. s.line) (s ∷ lines)
     at_one true e below = rw e (ap (λ t. s.line ∷ t) below)
     at_one false e below = rw e (ap (λ t. s.line ∷ t) below)
-
-content_of-change : (m n : ℕ) (f : Phase → Phase) (lines : List Standing) → content_of (line_at m (change_line n f lines)) ≡ content_of (line_at m lines)
-content_of-change m n f [] = refl
-content_of-change m n f (s ∷ lines) = at_both (eqb s.line.number n) refl (eqb s.line.number m) refl (content_of-change m n f lines)
-  where
-    at_both : (b : Bool) → eqb s.line.number n ≡ b → (c : Bool) → eqb s.line.number m ≡ c → content_of (line_at m (change_line n f lines)) ≡ content_of (line_at m lines) → content_of (line_at m (change_line n f (s ∷ lines))) ≡ content_of (line_at m (s ∷ lines))
-    at_both true e true h below = rw (e, h) refl
-    at_both true e false h below = rw (e, h) below
-    at_both false e true h below = rw (e, h) refl
-    at_both false e false h below = rw (e, h) below
-
-pub whole_call-change : (n : ℕ) (f : Phase → Phase) (lines : List Standing) (m : ℕ) (a : AskedCall) → whole_call (change_line n f lines) m a ≡ whole_call lines m a
-whole_call-change n f lines m (asked.Head key) = refl
-whole_call-change n f lines m (asked.Probe key) = refl
-whole_call-change n f lines m (asked.Get key etag from to) = refl
-whole_call-change n f lines m (asked.Delete key) = refl
-whole_call-change n f lines m (asked.Put key size) = ap (λ b. call.Put key b) (content_of-change m n f lines)

@@ -1,9 +1,5 @@
--- What lines owe, and that their numbers rise, while they go on; and that no file is a name.
-use Rattle.std.proofs.Common.{◌≡◌, ℕ, ◌+◌, ◌-◌, Bool, true, false, cond, eqb, List, [], ◌∷◌, map, refl, sym, ap, ◌∙◌, subst, arith}
-use Rattle.std.specs.Ordering.{nat_cmp}
-use Rattle.std.specs.Cmp.Lexicographic.{nat_list_cmp_total, slice_cmp}
-use Rattle.std.specs.FinSet as set
-use Rattle.mp_rules.specs.Local.{LocalNames, no_names, without_name}
+-- What lines owe, and that their numbers rise, while they go on.
+use Rattle.std.proofs.Common.{◌≡◌, ℕ, ◌+◌, Bool, true, false, eqb, List, [], ◌∷◌, map, refl, sym, ap, subst, arith}
 use Rattle.mount_model.specs.declared.standing.Phase.{Phase}
 use Rattle.mount_model.specs.declared.standing.Phase.TheVariants.{Waiting, Begun, Replied}
 use Rattle.mount_model.specs.declared.standing.Standing.{Standing}
@@ -56,13 +52,3 @@ begun-heard n told lines begun = record {
   heard = with_told told begun.heard;
   phase = ap (heard told) begun.phase;
 }
-
-pub files-first : (names : LocalNames) → names ≡ no_names → set.len names.files ≡ 0
-files-first names is = ap (λ (n : LocalNames). set.len n.files) is ∙ set.len-empty (slice_cmp nat_cmp)
-
-pub files-removed : (key : List ℕ) (old new : LocalNames) → new ≡ without_name key old → set.len old.files ≡ 0 → set.len new.files ≡ 0
-files-removed key old new is none = ap (λ (n : LocalNames). set.len n.files) is ∙ (set.len-remove nat_list_cmp_total old.files key ∙ still_none (set.contains old.files key) (set.len old.files) none)
-  where
-    still_none : (b : Bool) (n : ℕ) → n ≡ 0 → cond b (n - 1) n ≡ 0
-    still_none true n none = omega (arith, none)
-    still_none false n none = none

@@ -10,7 +10,8 @@ use Rattle.mount_model.specs.State.{line_at, change_line}
 use Rattle.mount_model.specs.Run.{AreRising}
 use Rattle.bucket_model.specs.declared.call.Call.{Call}
 use Rattle.job_table.specs.LiveJobs.{Held, held_at, with_taken, without, IsReadyIn, IsOutIn}
-use Rattle.mount_core.specs.Room.{owes_phase, owes_lines, owes_call, owes_jobs}
+use Rattle.core_writes.specs.Owed.{owes_call, owes_jobs}
+use Rattle.mount_core.specs.Room.{owes_phase, owes_lines}
 
 -- lines below a number are not of this number
 change_line-above : (n : ℕ) (f : Phase → Phase) (lines : List Standing) (above : ℕ) → n ≤ above → AreRising above (map (λ s. s.line) lines) → change_line n f lines ≡ lines

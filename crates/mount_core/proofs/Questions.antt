@@ -1,28 +1,24 @@
--- What a line opens, makes, removes and gives, by what it sees of the mount and by what it did before.
-use Rattle.std.proofs.Common.{◌≡◌, ◌≢◌, ℕ, Bool, true, false, List, [], ◌∷◌, ◌++◌, if◌then◌else◌, ◌==◌, Option, Some, None, Result, Ok, Err, refl, ap, ◌∙◌, subst, append_assoc}
-use Rattle.std.specs.Ordering.{nat_cmp}
-use Rattle.std.specs.Cmp.Lexicographic.{slice_cmp}
-use Rattle.std.specs.FinSet as set
+-- What a line opens, removes and gives, by what it sees of the mount and by what it did before.
+use Rattle.std.proofs.Common.{◌≡◌, ◌≢◌, ℕ, Bool, true, false, List, [], ◌∷◌, ◌++◌, if◌then◌else◌, ◌==◌, Option, Some, None, Result, Ok, Err, refl, ap, subst}
 use Rattle.std.proofs.lemmas.Bool.{eqb-false}
-use Rattle.mp_types.specs.declared.errno.Errno.TheVariants.{Eperm, Eexist, Eisdir, Emfile, Enotempty}
+use Rattle.mp_types.specs.declared.errno.Errno.TheVariants.{Eperm, Eexist, Eisdir, Emfile, Enotempty, Einval, Efbig}
 use Rattle.mp_types.specs.declared.path.PathFault.{PathFault}
-use Rattle.mp_types.specs.Path.{path_of, joined, slash}
+use Rattle.mp_types.specs.Path.{path_of, joined}
 use Rattle.mp_types.specs.Content.{bytes_of}
 use Rattle.mp_types.specs.HandleName.{max_handles}
 use Rattle.mp_rules.specs.declared.entry.Entry.{Entry}
-use Rattle.mp_rules.specs.declared.entry.Entry.TheVariants.{RemoteDir, LocalDir, File, Nothing}
-use Rattle.mp_rules.specs.declared.entry.Local.{Local}
-use Rattle.mp_rules.specs.declared.entry.Local.TheVariants as local
+use Rattle.mp_rules.specs.declared.entry.Entry.TheVariants.{RemoteDir, LocalDir, LocalFile, File, Nothing}
 use Rattle.mp_rules.specs.declared.facts.Question.{Question}
 use Rattle.mp_rules.specs.declared.facts.Question.TheVariants.{Head, Probe}
 use Rattle.mp_rules.specs.declared.facts.Fact.{Fact}
-use Rattle.mp_rules.specs.declared.facts.Fact.TheVariants as fact
-use Rattle.mp_rules.specs.Walk.{Decision, Need, Is, Refused, fact_in, below, by_local, by_probe, entry_at, walk}
-use Rattle.mp_rules.specs.Local.{LocalNames, local_at, has_name_below}
+use Rattle.mp_rules.specs.Walk.{Decision, Need, Is, Refused, fact_in, walk}
+use Rattle.mp_rules.specs.Local.{local_at, has_name_below}
 use Rattle.bucket_model.specs.declared.call.Call.{Call}
 use Rattle.bucket_model.specs.declared.answer.Brief.{Brief}
 use Rattle.bucket_model.specs.declared.answer.Brief.TheVariants as answer
-use Rattle.mount_model.specs.declared.handle.Handle.{Handle}
+use Rattle.upload_rules.specs.declared.upload.UpState.{UpState}
+use Rattle.upload_rules.specs.declared.upload.UpState.TheVariants as state
+use Rattle.mount_model.specs.declared.handle.Handle.TheVariants.{Reading, Writing}
 use Rattle.mount_model.specs.declared.handle.Version.{Version}
 use Rattle.mount_model.specs.declared.request.Request.{Request}
 use Rattle.mount_model.specs.declared.request.Request.TheVariants as request
@@ -32,152 +28,123 @@ use Rattle.mount_model.specs.declared.standing.Heard.{Heard}
 use Rattle.mount_model.specs.declared.standing.Told.{Told}
 use Rattle.mount_model.specs.declared.standing.Told.TheVariants.{Fact as AFact, Answer}
 use Rattle.mount_model.specs.Heard.{nothing_heard, with_told, fact_of, told_from, told_by}
-use Rattle.mount_model.specs.Conversation.{Next, Asks, Replies, Makes, Removes, Opens, Gives, Waits, View, Range, fails, next_of, put_next, delete_next, at_path, along, stat_at, stat_next, open_at, open_next, make_at, make_next, remove_at, remove_next, unlink_at, unlink_next, range_next, range_in, read_next, close_next}
-use Rattle.run_laws.proofs.Conversation.{IsRead, gives-read}
-use Rattle.local_names.specs.Names.{is_name}
+use Rattle.mount_model.specs.Handles.{Handle}
+use Rattle.mount_model.specs.Conversation.{Next, Asks, Replies, Removes, Opens, Creates, Gives, Writes, View, Range, fails, next_of, put_next, delete_next, at_path, along, stat_at, stat_next, opens_if, open_at, create_at, open_next, make_at, make_next, remove_at, remove_next, unlink_at, unlink_next, range_next, range_in, read_next, write_to, write_next, sync_next, close_next}
+use Rattle.run_laws.proofs.Conversation.{gives-read}
+use Rattle.run_laws.specs.Faithful.{IsRead}
 use Rattle.mount_core.specs.Turn.{RemovesKey}
 
--- what the walk finds stands at the path's own key
-
-rest_is : (first rest : Decision) (entry : Entry) → below first rest ≡ Is entry → rest ≡ Is entry
-rest_is (Need question) rest entry is = absurd (cc)
-rest_is (Is RemoteDir) rest entry is = is
-rest_is (Is LocalDir) rest entry is = is
-rest_is (Is (File etag size)) rest entry is = absurd (cc)
-rest_is (Is Nothing) rest entry is = absurd (cc)
-rest_is (Refused errno) rest entry is = absurd (cc)
-
-joined-longer : (key name : List ℕ) (names : List (List ℕ)) → joined ((key ++ slash ∷ name) ∷ names) ≡ joined (key ∷ name ∷ names)
-joined-longer key name [] = refl
-joined-longer key name (next ∷ names) = append_assoc key (slash ∷ name) (slash ∷ joined (next ∷ names))
-
-walked : (facts : Question → Option Fact) (locals : List ℕ → Local) (key : List ℕ) (names : List (List ℕ)) (entry : Entry) → walk facts locals key names ≡ Is entry → entry_at facts locals (joined (key ∷ names)) ≡ Is entry
-walked facts locals key [] entry is = is
-walked facts locals key (name ∷ names) entry is =
-    let rest = rest_is (entry_at facts locals key) (walk facts locals (key ++ slash ∷ name) names) entry is in
-    subst (λ (k : List ℕ). entry_at facts locals k ≡ Is entry) (joined-longer key name names) (walked facts locals (key ++ slash ∷ name) names entry rest)
-
--- where nothing stands at a key, no directory of the mount's own does
-
-not_made : (key : List ℕ) (own : Local) (head : Option Fact) → by_local key own head ≡ Is Nothing → own ≢ local.Dir
-not_made key local.Dir head is = absurd (cc)
-not_made key local.None head is = λ dir. absurd (cc)
-not_made key local.File head is = λ dir. absurd (cc)
-
-not_there : (key : List ℕ) (probe : Option Fact) (own : Local) (head : Option Fact) → by_probe key probe own head ≡ Is Nothing → own ≢ local.Dir
-not_there key None own head is = absurd (cc)
-not_there key (Some fact.Yes) own head is = absurd (cc)
-not_there key (Some (fact.Found etag size)) own head is = not_made key own head is
-not_there key (Some fact.Missing) own head is = not_made key own head is
-not_there key (Some fact.No) own head is = not_made key own head is
-
-no_dir : (names : LocalNames) (key : List ℕ) → local_at names key ≢ local.Dir → set.contains names.dirs key ≡ false
-no_dir names key other = go (set.contains names.dirs key) refl
-  where
-    go : (b : Bool) → set.contains names.dirs key ≡ b → set.contains names.dirs key ≡ false
-    go true is = absurd (other (rw is refl))
-    go false is = is
-
-no_file : (names : LocalNames) (key : List ℕ) → set.len names.files ≡ 0 → set.contains names.files key ≡ false
-no_file names key none = ap (λ (files : set.FinSet (slice_cmp nat_cmp)). set.contains files key) (set.empty_of_len names.files none) ∙ set.contains-empty (slice_cmp nat_cmp) key
-
-no_name : (facts : Question → Option Fact) (names : LocalNames) (key : List ℕ) → entry_at facts (local_at names) key ≡ Is Nothing → set.len names.files ≡ 0 → is_name names key ≡ false
-no_name facts names key is none = rw (no_dir names key (not_there key (facts (Probe key)) (local_at names key) (facts (Head key)) is), no_file names key none) refl
-
--- What a line opens has a free name, and there is a place for its handle. A directory that it makes is no name yet, where
--- no file is one; and it removes the directory of its own path.
+-- There is a place for the handle of what a line opens, and a line removes the directory of its own path.
 abbrev Fits : View → Request → Next → Type 0
-Fits view r (Asks called) = Unit {0}
-Fits view r (Replies said) = Unit {0}
-Fits view r (Makes key) = set.len view.names.files ≡ 0 → is_name view.names key ≡ false
 Fits view r (Removes key) = RemovesKey r key
-Fits view r (Opens version) = (view.handle ≡ None) × (view.live ≢ max_handles)
-Fits view r (Gives count) = Unit {0}
-Fits view r Waits = Unit {0}
+Fits view r (Opens version) = view.live ≢ max_handles
+Fits view r (Creates key) = view.live ≢ max_handles
+Fits view r other = Unit {0}
 
 put-fits : (view : View) (r : Request) (key bytes : List ℕ) (answers : List Brief) → Fits view r (put_next key bytes answers)
 put-fits view r key bytes [] = tt
-put-fits view r key bytes (answer.Found etag size ∷ answers) = tt
+put-fits view r key bytes ((answer.Found etag size) ∷ answers) = tt
 put-fits view r key bytes (answer.Missing ∷ answers) = tt
 put-fits view r key bytes (answer.Yes ∷ answers) = tt
 put-fits view r key bytes (answer.No ∷ answers) = tt
-put-fits view r key bytes (answer.Bytes count ∷ answers) = tt
+put-fits view r key bytes ((answer.Bytes n) ∷ answers) = tt
 put-fits view r key bytes (answer.Changed ∷ answers) = tt
 put-fits view r key bytes (answer.Gone ∷ answers) = tt
-put-fits view r key bytes (answer.Made etag ∷ answers) = tt
+put-fits view r key bytes ((answer.Made etag) ∷ answers) = tt
+put-fits view r key bytes ((answer.Upload id) ∷ answers) = tt
+put-fits view r key bytes (answer.Stored ∷ answers) = tt
+put-fits view r key bytes (answer.NoUpload ∷ answers) = tt
 put-fits view r key bytes (answer.Fault ∷ answers) = tt
 put-fits view r key bytes (answer.NoMemory ∷ answers) = tt
 
 delete-fits : (view : View) (r : Request) (key : List ℕ) (answers : List Brief) → Fits view r (delete_next key answers)
 delete-fits view r key [] = tt
-delete-fits view r key (answer.Found etag size ∷ answers) = tt
+delete-fits view r key ((answer.Found etag size) ∷ answers) = tt
 delete-fits view r key (answer.Missing ∷ answers) = tt
 delete-fits view r key (answer.Yes ∷ answers) = tt
 delete-fits view r key (answer.No ∷ answers) = tt
-delete-fits view r key (answer.Bytes count ∷ answers) = tt
+delete-fits view r key ((answer.Bytes n) ∷ answers) = tt
 delete-fits view r key (answer.Changed ∷ answers) = tt
 delete-fits view r key (answer.Gone ∷ answers) = tt
-delete-fits view r key (answer.Made etag ∷ answers) = tt
+delete-fits view r key ((answer.Made etag) ∷ answers) = tt
+delete-fits view r key ((answer.Upload id) ∷ answers) = tt
+delete-fits view r key (answer.Stored ∷ answers) = tt
+delete-fits view r key (answer.NoUpload ∷ answers) = tt
 delete-fits view r key (answer.Fault ∷ answers) = tt
 delete-fits view r key (answer.NoMemory ∷ answers) = tt
 
 -- what is done where this stands at the path fits
-abbrev FitAt : View → Request → (Question → Option Fact) → List (List ℕ) → (Entry → Next) → Type 0
-FitAt view r facts names at = (entry : Entry) → entry_at facts (local_at view.names) (joined names) ≡ Is entry → Fits view r (at entry)
+abbrev FitAt : View → Request → (Entry → Next) → Type 0
+FitAt view r at = (entry : Entry) → Fits view r (at entry)
 
-along-fits : (view : View) (r : Request) (root : Reply) (at : Entry → Next) (names : List (List ℕ)) (heard : Heard) → FitAt view r (fact_in heard.facts) names at → Fits view r (along view (Replies root) at names heard)
+along-fits : (view : View) (r : Request) (root : Reply) (at : Entry → Next) (names : List (List ℕ)) (heard : Heard) → FitAt view r at → Fits view r (along view (Replies root) at names heard)
 along-fits view r root at [] heard fit = tt
-along-fits view r root at (name ∷ names) heard fit = go (walk (fact_in heard.facts) (local_at view.names) name names) heard.answers refl
+along-fits view r root at (name ∷ names) heard fit = go (walk (fact_in heard.facts) (local_at view.names) name names) heard.answers
   where
-    go : (decision : Decision) (answers : List Brief) → walk (fact_in heard.facts) (local_at view.names) name names ≡ decision → Fits view r (at_path at decision answers)
-    go decision (answer ∷ answers) is = tt
-    go (Need (Head key)) [] is = tt
-    go (Need (Probe key)) [] is = tt
-    go (Is entry) [] is = fit entry (walked (fact_in heard.facts) (local_at view.names) name names entry is)
-    go (Refused errno) [] is = tt
+    go : (decision : Decision) (answers : List Brief) → Fits view r (at_path at decision answers)
+    go decision (answer ∷ answers) = tt
+    go (Need (Head key)) [] = tt
+    go (Need (Probe key)) [] = tt
+    go (Is entry) [] = fit entry
+    go (Refused errno) [] = tt
 
-stat_at-fits : (view : View) (r : Request) (entry : Entry) → Fits view r (stat_at entry)
+stat_at-fits : (view : View) (r : Request) → FitAt view r stat_at
 stat_at-fits view r RemoteDir = tt
 stat_at-fits view r LocalDir = tt
+stat_at-fits view r (LocalFile size) = tt
 stat_at-fits view r (File etag size) = tt
 stat_at-fits view r Nothing = tt
 
 stat-fits : (view : View) (r : Request) (path : Result (List (List ℕ)) PathFault) (heard : Heard) → Fits view r (stat_next view path heard)
 stat-fits view r (Err why) heard = tt
-stat-fits view r (Ok names) heard = along-fits view r reply.Directory stat_at names heard (λ entry is. stat_at-fits view r entry)
+stat-fits view r (Ok names) heard = along-fits view r reply.Directory stat_at names heard (stat_at-fits view r)
 
-open_at-fits : (view : View) (r : Request) (key : List ℕ) → view.handle ≡ None → (entry : Entry) → Fits view r (open_at view.live key entry)
-open_at-fits view r key free RemoteDir = tt
-open_at-fits view r key free LocalDir = tt
-open_at-fits view r key free (File etag size) = go (view.live == max_handles) refl
+if-fits : (view : View) (r : Request) (opened : Next) → (view.live ≢ max_handles → Fits view r opened) → Fits view r (opens_if view.live opened)
+if-fits view r opened fit = go (view.live == max_handles) refl
   where
-    go : (full : Bool) → (view.live == max_handles) ≡ full → Fits view r (if full then fails Emfile else Opens (record { key = key; etag = etag; size = size }))
+    go : (full : Bool) → (view.live == max_handles) ≡ full → Fits view r (if full then fails Emfile else opened)
     go true is = tt
-    go false is = (free, eqb-false view.live max_handles is)
-open_at-fits view r key free Nothing = tt
+    go false is = fit (eqb-false view.live max_handles is)
 
-open-fits : (view : View) (r : Request) (path : Result (List (List ℕ)) PathFault) (heard : Heard) (handle : Option Handle) → view.handle ≡ handle → Fits view r (open_next view handle path heard)
-open-fits view r (Err why) heard handle is = tt
-open-fits view r (Ok names) heard (Some handle) is = tt
-open-fits view r (Ok names) heard None is = along-fits view r (reply.Failed Eisdir) (open_at view.live (joined names)) names heard (λ entry there. open_at-fits view r (joined names) is entry)
+open_at-fits : (view : View) (r : Request) (key : List ℕ) → FitAt view r (open_at view.live key)
+open_at-fits view r key RemoteDir = tt
+open_at-fits view r key LocalDir = tt
+open_at-fits view r key (LocalFile size) = tt
+open_at-fits view r key (File etag size) = if-fits view r (Opens (record { key = key; etag = etag; size = size })) (λ place. place)
+open_at-fits view r key Nothing = tt
 
-make_at-fits : (view : View) (r : Request) (facts : Question → Option Fact) (key : List ℕ) (entry : Entry) → entry_at facts (local_at view.names) key ≡ Is entry → Fits view r (make_at key entry)
-make_at-fits view r facts key RemoteDir is = tt
-make_at-fits view r facts key LocalDir is = tt
-make_at-fits view r facts key (File etag size) is = tt
-make_at-fits view r facts key Nothing is = no_name facts view.names key is
+create_at-fits : (view : View) (r : Request) (may_overwrite : Bool) (key : List ℕ) → FitAt view r (create_at may_overwrite view.live key)
+create_at-fits view r may_overwrite key RemoteDir = tt
+create_at-fits view r may_overwrite key LocalDir = tt
+create_at-fits view r may_overwrite key (LocalFile size) = tt
+create_at-fits view r true key (File etag size) = if-fits view r (Creates key) (λ place. place)
+create_at-fits view r false key (File etag size) = tt
+create_at-fits view r may_overwrite key Nothing = if-fits view r (Creates key) (λ place. place)
+
+open-fits : (at : ℕ → List ℕ → Entry → Next) (view : View) (r : Request) (path : Result (List (List ℕ)) PathFault) (heard : Heard) (handle : Option Handle) → ((key : List ℕ) → FitAt view r (at view.live key)) → Fits view r (open_next at view handle path heard)
+open-fits at view r (Err why) heard handle fit = tt
+open-fits at view r (Ok names) heard (Some handle) fit = tt
+open-fits at view r (Ok names) heard None fit = along-fits view r (reply.Failed Eisdir) (at view.live (joined names)) names heard (fit (joined names))
+
+make_at-fits : (view : View) (r : Request) (key : List ℕ) → FitAt view r (make_at key)
+make_at-fits view r key RemoteDir = tt
+make_at-fits view r key LocalDir = tt
+make_at-fits view r key (LocalFile size) = tt
+make_at-fits view r key (File etag size) = tt
+make_at-fits view r key Nothing = tt
 
 make-fits : (view : View) (r : Request) (path : Result (List (List ℕ)) PathFault) (heard : Heard) → Fits view r (make_next view path heard)
 make-fits view r (Err why) heard = tt
-make-fits view r (Ok names) heard = along-fits view r (reply.Failed Eexist) (make_at (joined names)) names heard (make_at-fits view r (fact_in heard.facts) (joined names))
+make-fits view r (Ok names) heard = along-fits view r (reply.Failed Eexist) (make_at (joined names)) names heard (make_at-fits view r (joined names))
 
-remove_at-fits : (view : View) (r : Request) (key : List ℕ) → RemovesKey r key → (entry : Entry) → Fits view r (remove_at view.names key entry)
+remove_at-fits : (view : View) (r : Request) (key : List ℕ) → RemovesKey r key → FitAt view r (remove_at view.names key)
 remove_at-fits view r key removes RemoteDir = tt
 remove_at-fits view r key removes LocalDir = go (has_name_below view.names key)
   where
     go : (some : Bool) → Fits view r (if some then fails Enotempty else Removes key)
     go true = tt
     go false = removes
+remove_at-fits view r key removes (LocalFile size) = tt
 remove_at-fits view r key removes (File etag size) = tt
 remove_at-fits view r key removes Nothing = tt
 
@@ -185,11 +152,12 @@ remove-fits : (view : View) (text : List ℕ) (path : Result (List (List ℕ)) P
 remove-fits view text (Err why) heard is = tt
 remove-fits view text (Ok names) heard is =
     along-fits view (request.RemoveDir text) (reply.Failed Eperm) (remove_at view.names (joined names)) names heard
-    (λ entry there. remove_at-fits view (request.RemoveDir text) (joined names) (record { path = text; is = refl; names = names; path_is = is; key_is = refl }) entry)
+    (remove_at-fits view (request.RemoveDir text) (joined names) (record { path = text; is = refl; names = names; path_is = is; key_is = refl }))
 
-unlink_at-fits : (view : View) (r : Request) (may_delete : Bool) (key : List ℕ) (entry : Entry) → Fits view r (unlink_at may_delete key entry)
+unlink_at-fits : (view : View) (r : Request) (may_delete : Bool) (key : List ℕ) → FitAt view r (unlink_at may_delete key)
 unlink_at-fits view r may_delete key RemoteDir = tt
 unlink_at-fits view r may_delete key LocalDir = tt
+unlink_at-fits view r may_delete key (LocalFile size) = tt
 unlink_at-fits view r true key (File etag size) = tt
 unlink_at-fits view r false key (File etag size) = tt
 unlink_at-fits view r may_delete key Nothing = tt
@@ -199,60 +167,93 @@ unlink-fits view r (Err why) heard = tt
 unlink-fits view r (Ok names) heard = go heard.answers
   where
     walks : (answers : List Brief) → Fits view r (along view (fails Eisdir) (unlink_at view.options.allow_delete (joined names)) names (record { facts = heard.facts; answers = answers }))
-    walks answers = along-fits view r (reply.Failed Eisdir) (unlink_at view.options.allow_delete (joined names)) names (record { facts = heard.facts; answers = answers }) (λ entry is. unlink_at-fits view r view.options.allow_delete (joined names) entry)
+    walks answers = along-fits view r (reply.Failed Eisdir) (unlink_at view.options.allow_delete (joined names)) names (record { facts = heard.facts; answers = answers }) (unlink_at-fits view r view.options.allow_delete (joined names))
 
     go : (answers : List Brief) → Fits view r (unlink_next view (Ok names) (record { facts = heard.facts; answers = answers }))
     go [] = walks []
-    go (answer.Found etag size ∷ answers) = walks (answer.Found etag size ∷ answers)
+    go ((answer.Found etag size) ∷ answers) = walks ((answer.Found etag size) ∷ answers)
     go (answer.Missing ∷ answers) = walks (answer.Missing ∷ answers)
     go (answer.Yes ∷ answers) = walks (answer.Yes ∷ answers)
     go (answer.No ∷ answers) = walks (answer.No ∷ answers)
-    go (answer.Bytes count ∷ answers) = walks (answer.Bytes count ∷ answers)
+    go ((answer.Bytes n) ∷ answers) = walks ((answer.Bytes n) ∷ answers)
     go (answer.Changed ∷ answers) = walks (answer.Changed ∷ answers)
     go (answer.Gone ∷ answers) = tt
-    go (answer.Made etag ∷ answers) = walks (answer.Made etag ∷ answers)
+    go ((answer.Made etag) ∷ answers) = walks ((answer.Made etag) ∷ answers)
+    go ((answer.Upload id) ∷ answers) = walks ((answer.Upload id) ∷ answers)
+    go (answer.Stored ∷ answers) = walks (answer.Stored ∷ answers)
+    go (answer.NoUpload ∷ answers) = walks (answer.NoUpload ∷ answers)
     go (answer.Fault ∷ answers) = walks (answer.Fault ∷ answers)
     go (answer.NoMemory ∷ answers) = walks (answer.NoMemory ∷ answers)
 
 range-fits : (view : View) (r : Request) (version : Version) (range : Option Range) (answers : List Brief) → Fits view r (range_next version range answers)
 range-fits view r version None answers = tt
 range-fits view r version (Some range) [] = tt
-range-fits view r version (Some range) (answer.Found etag size ∷ answers) = tt
+range-fits view r version (Some range) ((answer.Found etag size) ∷ answers) = tt
 range-fits view r version (Some range) (answer.Missing ∷ answers) = tt
 range-fits view r version (Some range) (answer.Yes ∷ answers) = tt
 range-fits view r version (Some range) (answer.No ∷ answers) = tt
-range-fits view r version (Some range) (answer.Bytes count ∷ answers) = tt
+range-fits view r version (Some range) ((answer.Bytes n) ∷ answers) = tt
 range-fits view r version (Some range) (answer.Changed ∷ answers) = tt
 range-fits view r version (Some range) (answer.Gone ∷ answers) = tt
-range-fits view r version (Some range) (answer.Made etag ∷ answers) = tt
+range-fits view r version (Some range) ((answer.Made etag) ∷ answers) = tt
+range-fits view r version (Some range) ((answer.Upload id) ∷ answers) = tt
+range-fits view r version (Some range) (answer.Stored ∷ answers) = tt
+range-fits view r version (Some range) (answer.NoUpload ∷ answers) = tt
 range-fits view r version (Some range) (answer.Fault ∷ answers) = tt
 range-fits view r version (Some range) (answer.NoMemory ∷ answers) = tt
 
 read-fits : (view : View) (r : Request) (handle : Option Handle) (offset count : ℕ) (answers : List Brief) → Fits view r (read_next handle offset count answers)
 read-fits view r None offset count answers = tt
-read-fits view r (Some handle) offset count answers = range-fits view r handle.version (range_in offset count handle.version.size) answers
+read-fits view r (Some (Reading line version)) offset count answers = range-fits view r version (range_in offset count version.size) answers
+read-fits view r (Some (Writing writer)) offset count answers = tt
 
-close-fits : (view : View) (r : Request) (handle : Option Handle) → Fits view r (close_next handle)
-close-fits view r None = tt
-close-fits view r (Some handle) = tt
+write-fits : (view : View) (r : Request) (handle : Option Handle) (offset : ℕ) (bytes : List ℕ) → Fits view r (write_next handle offset bytes)
+write-fits view r None offset bytes = tt
+write-fits view r (Some (Reading line version)) offset bytes = tt
+write-fits view r (Some (Writing w)) offset bytes = by_state w.upload.state refl
+  where
+    by_tests : (a b : Bool) (next : Next) → Fits view r next → Fits view r (if a then fails Einval else (if b then fails Efbig else next))
+    by_tests true b next fit = tt
+    by_tests false true next fit = tt
+    by_tests false false next fit = fit
+
+    by_state : (s : UpState) → w.upload.state ≡ s → Fits view r (write_to w offset bytes)
+    by_state state.Open is = rw is (by_tests _ _ (Writes _ _) tt)
+    by_state state.Finished is = rw is tt
+    by_state state.Done is = rw is tt
+    by_state (state.Failed errno) is = rw is tt
+
+sync-fits : (view : View) (r : Request) (line : ℕ) (handle : Option Handle) → Fits view r (sync_next line handle)
+sync-fits view r line None = tt
+sync-fits view r line (Some (Reading opened version)) = tt
+sync-fits view r line (Some (Writing w)) = tt
+
+close-fits : (view : View) (r : Request) (line : ℕ) (handle : Option Handle) → Fits view r (close_next line handle)
+close-fits view r line None = tt
+close-fits view r line (Some (Reading opened version)) = tt
+close-fits view r line (Some (Writing w)) = tt
 
 next-fits : (view : View) (r : Request) (heard : Heard) → Fits view r (next_of view r heard)
 next-fits view (request.Put key content) heard = put-fits view (request.Put key content) key (bytes_of content) heard.answers
 next-fits view request.Await heard = tt
 next-fits view (request.Stat path) heard = stat-fits view (request.Stat path) (path_of path) heard
-next-fits view (request.OpenRead name path) heard = open-fits view (request.OpenRead name path) (path_of path) heard view.handle refl
+next-fits view (request.OpenRead name path) heard = open-fits open_at view (request.OpenRead name path) (path_of path) heard view.handle (open_at-fits view (request.OpenRead name path))
+next-fits view (request.OpenWrite name path) heard = open-fits (create_at false) view (request.OpenWrite name path) (path_of path) heard view.handle (create_at-fits view (request.OpenWrite name path) false)
+next-fits view (request.OpenTruncate name path) heard = open-fits (create_at view.options.allow_overwrite) view (request.OpenTruncate name path) (path_of path) heard view.handle (create_at-fits view (request.OpenTruncate name path) view.options.allow_overwrite)
 next-fits view (request.Read name offset count) heard = read-fits view (request.Read name offset count) view.handle offset count heard.answers
-next-fits view (request.Close name) heard = close-fits view (request.Close name) view.handle
+next-fits view (request.Write name offset content) heard = write-fits view (request.Write name offset content) view.handle offset (bytes_of content)
+next-fits view (request.Sync name) heard = sync-fits view (request.Sync name) view.line view.handle
+next-fits view (request.Close name) heard = close-fits view (request.Close name) view.line view.handle
 next-fits view (request.Delete key) heard = delete-fits view (request.Delete key) key heard.answers
 next-fits view (request.MakeDir path) heard = make-fits view (request.MakeDir path) (path_of path) heard
 next-fits view (request.RemoveDir path) heard = remove-fits view path (path_of path) heard refl
 next-fits view (request.Unlink path) heard = unlink-fits view (request.Unlink path) (path_of path) heard
 
-pub opens_fits : (view : View) (r : Request) (heard : Heard) (version : Version) → next_of view r heard ≡ Opens version → (view.handle ≡ None) × (view.live ≢ max_handles)
+pub opens_fits : (view : View) (r : Request) (heard : Heard) (version : Version) → next_of view r heard ≡ Opens version → view.live ≢ max_handles
 opens_fits view r heard version is = subst (Fits view r) is (next-fits view r heard)
 
-pub makes_fits : (view : View) (r : Request) (heard : Heard) (key : List ℕ) → next_of view r heard ≡ Makes key → set.len view.names.files ≡ 0 → is_name view.names key ≡ false
-makes_fits view r heard key is = subst (Fits view r) is (next-fits view r heard)
+pub creates_fits : (view : View) (r : Request) (heard : Heard) (key : List ℕ) → next_of view r heard ≡ Creates key → view.live ≢ max_handles
+creates_fits view r heard key is = subst (Fits view r) is (next-fits view r heard)
 
 pub removes_fits : (view : View) (r : Request) (heard : Heard) (key : List ℕ) → next_of view r heard ≡ Removes key → RemovesKey r key
 removes_fits view r heard key is = subst (Fits view r) is (next-fits view r heard)
@@ -267,7 +268,8 @@ gives_none view r count is = by_request r (gives-read view r nothing_heard count
 
     by_handle : (handle : Option Handle) (offset asked : ℕ) → read_next handle offset asked [] ≡ Gives count → count ≡ 0
     by_handle None offset asked is = absurd (cc)
-    by_handle (Some handle) offset asked is = by_range handle.version (range_in offset asked handle.version.size) is
+    by_handle (Some (Writing w)) offset asked is = absurd (cc)
+    by_handle (Some (Reading line version)) offset asked is = by_range version (range_in offset asked version.size) is
 
     by_request : (r : Request) → IsRead r → next_of view r nothing_heard ≡ Gives count → count ≡ 0
     by_request (request.Read name offset asked) read is = by_handle view.handle offset asked is
@@ -275,6 +277,10 @@ gives_none view r count is = by_request r (gives-read view r nothing_heard count
     by_request request.Await read is = absurd read
     by_request (request.Stat path) read is = absurd read
     by_request (request.OpenRead name path) read is = absurd read
+    by_request (request.OpenWrite name path) read is = absurd read
+    by_request (request.OpenTruncate name path) read is = absurd read
+    by_request (request.Write name offset content) read is = absurd read
+    by_request (request.Sync name) read is = absurd read
     by_request (request.Close name) read is = absurd read
     by_request (request.Delete key) read is = absurd read
     by_request (request.MakeDir path) read is = absurd read
@@ -296,26 +302,32 @@ gives_brought view r heard called question last count asks gives =
     answer-told question last (answer.Bytes count) (by_request r (told_by question last) (gives-read view r (with_told (told_by question last) heard) count gives) asks gives)
   where
     by_last : (version : Version) (range : Range) (last : Brief) → range_next version (Some range) (last ∷ []) ≡ Gives count → last ≡ answer.Bytes count
-    by_last version range (answer.Bytes n) gives = let same : n ≡ count = cc in ap (λ k. answer.Bytes k) same
     by_last version range (answer.Found etag size) gives = absurd (cc)
     by_last version range answer.Missing gives = absurd (cc)
     by_last version range answer.Yes gives = absurd (cc)
     by_last version range answer.No gives = absurd (cc)
+    by_last version range (answer.Bytes n) gives = let same : n ≡ count = cc in ap (λ k. answer.Bytes k) same
     by_last version range answer.Changed gives = absurd (cc)
     by_last version range answer.Gone gives = absurd (cc)
     by_last version range (answer.Made etag) gives = absurd (cc)
+    by_last version range (answer.Upload id) gives = absurd (cc)
+    by_last version range answer.Stored gives = absurd (cc)
+    by_last version range answer.NoUpload gives = absurd (cc)
     by_last version range answer.Fault gives = absurd (cc)
     by_last version range answer.NoMemory gives = absurd (cc)
 
     none-asked : (version : Version) (range : Range) (first : Brief) (answers : List Brief) → range_next version (Some range) (first ∷ answers) ≡ Asks called → ⊥
-    none-asked version range (answer.Bytes n) answers asks = absurd (cc)
     none-asked version range (answer.Found etag size) answers asks = absurd (cc)
     none-asked version range answer.Missing answers asks = absurd (cc)
     none-asked version range answer.Yes answers asks = absurd (cc)
     none-asked version range answer.No answers asks = absurd (cc)
+    none-asked version range (answer.Bytes n) answers asks = absurd (cc)
     none-asked version range answer.Changed answers asks = absurd (cc)
     none-asked version range answer.Gone answers asks = absurd (cc)
     none-asked version range (answer.Made etag) answers asks = absurd (cc)
+    none-asked version range (answer.Upload id) answers asks = absurd (cc)
+    none-asked version range answer.Stored answers asks = absurd (cc)
+    none-asked version range answer.NoUpload answers asks = absurd (cc)
     none-asked version range answer.Fault answers asks = absurd (cc)
     none-asked version range answer.NoMemory answers asks = absurd (cc)
 
@@ -326,7 +338,8 @@ gives_brought view r heard called question last count asks gives =
 
     by_handle : (handle : Option Handle) (offset asked : ℕ) (last : Brief) → read_next handle offset asked heard.answers ≡ Asks called → read_next handle offset asked (heard.answers ++ last ∷ []) ≡ Gives count → last ≡ answer.Bytes count
     by_handle None offset asked last asks gives = absurd (cc)
-    by_handle (Some handle) offset asked last asks gives = by_range handle.version (range_in offset asked handle.version.size) heard.answers last asks gives
+    by_handle (Some (Writing w)) offset asked last asks gives = absurd (cc)
+    by_handle (Some (Reading line version)) offset asked last asks gives = by_range version (range_in offset asked version.size) heard.answers last asks gives
 
     -- a fact leaves a read where it is
     by_told : (told : Told) (offset asked : ℕ) → read_next view.handle offset asked heard.answers ≡ Asks called → read_next view.handle offset asked (with_told told heard).answers ≡ Gives count → told ≡ Answer (answer.Bytes count)
@@ -339,6 +352,10 @@ gives_brought view r heard called question last count asks gives =
     by_request request.Await told read asks gives = absurd read
     by_request (request.Stat path) told read asks gives = absurd read
     by_request (request.OpenRead name path) told read asks gives = absurd read
+    by_request (request.OpenWrite name path) told read asks gives = absurd read
+    by_request (request.OpenTruncate name path) told read asks gives = absurd read
+    by_request (request.Write name offset content) told read asks gives = absurd read
+    by_request (request.Sync name) told read asks gives = absurd read
     by_request (request.Close name) told read asks gives = absurd read
     by_request (request.Delete key) told read asks gives = absurd read
     by_request (request.MakeDir path) told read asks gives = absurd read

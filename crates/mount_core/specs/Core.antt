@@ -2,6 +2,7 @@
 use Rattle.std.specs.Prelude.{◌≡◌, ℕ, ◌<◌, List, [], ◌∷◌, ◌++◌, map, length}
 use Rattle.std.specs.List.{AllByRecursion}
 use Rattle.mp_types.specs.declared.options.Opts.{Opts}
+use Rattle.mp_types.specs.Options.{AreWithin}
 use Rattle.mount_model.specs.declared.request.Line.{Line}
 use Rattle.mount_model.specs.declared.event.Event.{Event}
 use Rattle.mount_model.specs.Step.{Step}
@@ -36,6 +37,7 @@ pub record Advances (event : Event) (bytes : List ℕ) (old new : CoreState) : T
 
 -- how the parts of a core stand for its script and steps
 pub record IsCore (work : Work) (core : CoreState) : Type 0 where
+  pub within : AreWithin core.options
   pub rising : AreRising 0 core.script
   pub so_far : IsRunSoFar core.options core.script core.steps
   pub time : work.time ≡ (state_of core).time

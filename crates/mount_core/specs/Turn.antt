@@ -1,32 +1,36 @@
--- What one line's turn, and the awaits behind it, do to the parts of the mount.
-use Rattle.std.specs.Prelude.{◌≡◌, ◌≢◌, ℕ, ◌+◌, List, [], ◌∷◌, ◌++◌, map, length, Option, Some, None, Ok, ◌⊎◌}
+-- What one turn, and the awaits behind it, do to the parts of the mount.
+use Rattle.std.specs.Prelude.{◌≡◌, ◌≢◌, ℕ, ◌≤◌, List, [], ◌++◌, length, fold, Bool, if◌then◌else◌, Option, Some, None, IsSome, Ok, ◌⊎◌}
 use Rattle.std.specs.List.{AllByRecursion}
 use Rattle.std.specs.FinMap as table
-use Rattle.mp_types.specs.HandleName.{max_handles}
+use Rattle.mp_types.specs.HandleName.{HandleName, max_handles}
 use Rattle.mp_types.specs.Path.{path_of, joined}
-use Rattle.bucket_model.specs.declared.call.Call.{Call}
+use Rattle.upload_rules.specs.declared.upload.UpState.TheVariants.{Open as IsOpen}
+use Rattle.upload_rules.specs.Upload.{Upload}
+use Rattle.mount_model.specs.declared.handle.Handle.TheVariants.{Writing}
 use Rattle.mount_model.specs.declared.request.Request.{Request}
 use Rattle.mount_model.specs.declared.request.Request.TheVariants.{RemoveDir}
-use Rattle.mount_model.specs.declared.request.Reply.{Reply}
+use Rattle.mount_model.specs.declared.request.Line.{Line}
 use Rattle.mount_model.specs.declared.event.Ask.{Ask}
 use Rattle.mount_model.specs.declared.event.Answered.{Answered}
 use Rattle.mount_model.specs.declared.event.Owner.{Owner}
+use Rattle.mount_model.specs.declared.event.Owner.TheVariants as owner
 use Rattle.mount_model.specs.declared.standing.Phase.{Phase}
-use Rattle.mount_model.specs.declared.standing.Phase.TheVariants.{Replied}
 use Rattle.mount_model.specs.declared.standing.Standing.{Standing}
 use Rattle.mount_model.specs.declared.standing.Told.{Told}
-use Rattle.line_table.specs.Table.{HasBegun}
-use Rattle.mount_model.specs.Heard.{question_of}
-use Rattle.mount_model.specs.Step.{Step, change_last, with_ask}
-use Rattle.mount_model.specs.State.{change_line, line_at, heard, whole_call, with_replies, next_at, by_reply, shared_after}
-use Rattle.mount_model.specs.Conversation.{Next, Gives, Waits}
-use Rattle.mount_model.specs.Handles.{handle_of}
+use Rattle.mount_model.specs.Step.{Step, change_last}
+use Rattle.mount_model.specs.State.{ClientState, Shared, Job, Gone, Turn, line_at, change_line, change_job, heard, jobs_at, jobs_asked, next_in, turn_of_line, with_replies, with_names, names_behind, handle_behind, is_answered, shared_after}
+use Rattle.mount_model.specs.Conversation.{Next, Ends, Waits, Gives}
+use Rattle.mount_model.specs.Writers.{answer_to}
+use Rattle.mount_model.specs.Handles.{Writer, name_in, handle_of, owner_for}
 use Rattle.mount_model.specs.Reads.{GivesOnly}
-use Rattle.mount_model.specs.Run.{TurnOf, TakesTurn, asked_of, owner_at}
-use Rattle.job_table.specs.LiveJobs.{Held, LiveJobs}
+use Rattle.mount_model.specs.Run.{TakesTurn}
+use Rattle.run_laws.specs.Writers.{waiting_line}
+use Rattle.line_table.specs.Table.{HasBegun}
+use Rattle.job_table.specs.LiveJobs.{LiveJobs, held_of, ready_of_writer, AreNumbered}
+use Rattle.core_writes.specs.Turn.{IsTurn}
 use Rattle.mount_core.specs.declared.due.Due.{Due}
 use Rattle.mount_core.specs.declared.work.Work.{Work}
-use Rattle.mount_core.specs.Due.{DueMeans}
+use Rattle.mount_core.specs.Due.{DueMeans, DueIsOf}
 use Rattle.mount_core.specs.Shared.{shared_in}
 
 -- the last answer, which may not have been put behind the others
@@ -34,30 +38,51 @@ abbrev pub heard_last : Option Told → Phase → Phase
 heard_last None phase = phase
 heard_last (Some told) phase = heard told phase
 
--- what the line of a number does next behind its last answer, and whose jobs it asks for
+-- what the line of a number does next behind its last answer, whose jobs it asks for, and its turn
 
 abbrev pub lines_behind : ℕ → Option Told → Work → List Standing
 lines_behind number last work = change_line number (heard_last last) work.lines
 
+abbrev pub next_at : Shared → Option Standing → Next
+next_at shared None = Waits
+next_at shared (Some s) = next_in shared s
+
+abbrev pub owner_at : Shared → ℕ → Option Standing → Owner
+owner_at shared number None = owner.Line number
+owner_at shared number (Some s) = owner_for s.line.number s.line.request (handle_of s.line shared.handles)
+
 abbrev pub next_behind : ℕ → Option Told → Work → Next
-next_behind number last work = next_at (shared_in work) number (lines_behind number last work)
+next_behind number last work = next_at (shared_in work) (line_at number (lines_behind number last work))
 
 abbrev pub owner_behind : ℕ → Option Told → Work → Owner
-owner_behind number last work = owner_at (shared_in work) number (lines_behind number last work)
+owner_behind number last work = owner_at (shared_in work) number (line_at number (lines_behind number last work))
 
-abbrev pub with_turn : List Ask → List Answered → Step → Step
-with_turn asks replies step = record { event = step.event; drops = step.drops; asks = step.asks ++ asks; replies = step.replies ++ replies }
+abbrev pub turn_behind : ℕ → Option Told → Work → Turn
+turn_behind number last work = turn_of_line (shared_in work) (line_at number (lines_behind number last work))
 
--- a job of this line with this call, and the question that it asks, if it asks one
-abbrev pub held_call : ℕ → ℕ → Call → Held
-held_call number line called = record { number = number; line = line; call = Some called; question = question_of called }
+abbrev pub with_part : List ℕ → List Ask → List Answered → Step → Step
+with_part drops asks replies step = record { event = step.event; drops = step.drops ++ drops; asks = step.asks ++ asks; replies = step.replies ++ replies }
 
--- the jobs that asks of a line make
-abbrev pub held_for : List Standing → ℕ → Ask → Held
-held_for lines line ask = held_call ask.job line (whole_call lines line ask.call)
+-- all jobs so far, of which a table holds those that are ready or out
+pub record AreAll (jobs : LiveJobs) (all : List Job) : Type 0 where
+  pub numbered : AreNumbered 1 all
+  pub held : jobs.held ≡ held_of all
+  pub count : jobs.count ≡ length all
 
-abbrev pub with_asks : List Standing → ℕ → List Ask → LiveJobs → LiveJobs
-with_asks lines line asks jobs = record { count = jobs.count + length asks; held = jobs.held ++ map (held_for lines line) asks }
+-- these are the jobs of a table, but for their order in a run
+pub record Holds (jobs : LiveJobs) (all : List Job) : Type 0 where
+  pub held : jobs.held ≡ held_of all
+  pub count : jobs.count ≡ length all
+
+abbrev pub gone_with : List Job → List ℕ → List Job
+gone_with jobs drops = fold (λ all job. change_job job Gone all) jobs drops
+
+-- these lines got these replies in the last step
+pub record Answers (replies : List Answered) (old new : Work) : Type 0 where
+  pub steps : new.record.steps ≡ change_last (with_part [] [] replies) old.record.steps
+  pub lines : new.lines ≡ with_replies old.lines replies
+  pub jobs : new.jobs ≡ old.jobs
+  pub time : new.time ≡ old.time
 
 -- handles and names may have changed, and all else is as before
 pub record SharedAlone (old new : Work) : Type 0 where
@@ -67,40 +92,30 @@ pub record SharedAlone (old new : Work) : Type 0 where
   pub time : new.time ≡ old.time
   pub options : new.options ≡ old.options
 
--- the line has asked for this call, as a new job
-pub record Asks (number : ℕ) (asker : Owner) (called : Call) (last : Option Told) (old new : Work) : Type 0 where
-  pub steps : new.record.steps ≡ change_last (with_ask (record { job = old.jobs.count + 1; owner = asker; call = asked_of called })) old.record.steps
-  pub lines : new.lines ≡ lines_behind number last old
-  pub jobs : new.jobs ≡ record { count = old.jobs.count + 1; held = old.jobs.held ++ held_call (old.jobs.count + 1) number called ∷ [] }
+-- The turn has been taken: the last step has its drops, asks and replies, which are those that a legal step may have,
+-- and lines, jobs, handles and names are as they are behind it.
+pub record Takes (turn : Turn) (lines : List Standing) (bytes : List ℕ) (old new : Work) : Type 0 where
+  pub drops : List ℕ
+  pub asks : List Ask
+  pub own : List Answered
+  pub steps : new.record.steps ≡ change_last (with_part drops asks own) old.record.steps
+  pub replied : new.lines ≡ with_replies lines own
+  pub legal : (state : ClientState) (step : Step) → step.drops ≡ drops → step.asks ≡ asks → AreAll old.jobs (jobs_at state.jobs step.event) → length (jobs_at state.jobs step.event) ≡ length state.jobs → TakesTurn state step turn own
+  pub jobs : (step : Step) (all : List Job) → step.drops ≡ drops → step.asks ≡ asks → AreAll old.jobs all → Holds new.jobs (gone_with (all ++ jobs_asked step turn) step.drops)
+  pub shared : (step : Step) (all : List Job) (more : List Answered) → AreAll old.jobs all → step.drops ≡ drops → step.asks ≡ asks → step.replies ≡ own ++ more → shared_in new ≡ shared_after turn step (shared_in old)
   pub time : new.time ≡ old.time
-
--- there was no memory for the call: the line may still be answered, and all else is as before
-pub record AsksNot (number : ℕ) (old new : Work) : Type 0 where
-  pub steps : new.record.steps ≡ old.record.steps
-  pub begun : HasBegun number new.lines
-  pub lines : change_line number (λ phase. Replied) new.lines ≡ change_line number (λ phase. Replied) old.lines
-  pub jobs : new.jobs ≡ old.jobs
-  pub time : new.time ≡ old.time
-
--- these lines got these replies in the last step
-pub record Answers (replies : List Answered) (old new : Work) : Type 0 where
-  pub steps : new.record.steps ≡ change_last (with_turn [] replies) old.record.steps
-  pub lines : new.lines ≡ with_replies old.lines replies
-  pub jobs : new.jobs ≡ old.jobs
-  pub time : new.time ≡ old.time
-
--- the line got a reply that its turn may give, without data, and the reply has done what it does
-pub record Ends (number : ℕ) (next : Next) (old new : Work) : Type 0 where
-  pub said : Reply
-  pub answers : Answers (record { line = number; reply = said } ∷ []) old new
-  pub turn : (job : ℕ) (asker : Owner) → TakesTurn job (TurnOf number asker next) [] (record { line = number; reply = said } ∷ [])
-  pub plain : (bytes : List ℕ) → GivesOnly bytes (record { line = number; reply = said })
   pub options : new.options ≡ old.options
-  pub does : (s : Standing) → line_at number old.lines ≡ Some s → shared_in new ≡ by_reply next s.line said (shared_in old)
+  pub gives : AllByRecursion (GivesOnly bytes) own
 
--- the name that the line gives is free, and there is a place for its handle
+-- the line gives a name that is free, and there is a place for its handle
+pub record HasPlace (line : Line) (work : Work) : Type 0 where
+  pub name : ℕ
+  pub names : name_in line.request ≡ Some name
+  pub free : handle_of line work.handles ≡ None
+  pub place : table.len work.handles ≢ max_handles
+
 abbrev pub MayOpen : ℕ → Work → Type 0
-MayOpen number work = (s : Standing) → line_at number work.lines ≡ Some s → (handle_of s.line work.handles ≡ None) × (table.len work.handles ≢ max_handles)
+MayOpen number work = (s : Standing) → line_at number work.lines ≡ Some s → HasPlace s.line work
 
 -- the request removes the directory of this key
 pub record RemovesKey (asked : Request) (key : List ℕ) : Type 0 where
@@ -116,21 +131,45 @@ pub record RemovesDir (number : ℕ) (key : List ℕ) (lines : List Standing) : 
   pub stands : line_at number lines ≡ Some standing
   pub removes : RemovesKey standing.line.request key
 
+-- The writer that a line names may have a turn: each of its jobs that is ready is a call that isn't back, nobody waits for
+-- it, and while it takes bytes, its file stands among the names.
+pub record MayTurn (writer : Writer) (work : Work) : Type 0 where
+  pub at_work : length (ready_of_writer writer.line work.jobs.held) ≤ writer.upload.pending
+  pub unwaited : (number : ℕ) → waiting_line writer.waiter ≡ Some number → ⊥
+  pub named : writer.upload.state ≡ IsOpen → IsSome (table.get work.names.files writer.key)
+
+abbrev pub NamedMayTurn : ℕ → Work → Type 0
+NamedMayTurn number work = (s : Standing) (writer : Writer) → line_at number work.lines ≡ Some s → handle_of s.line work.handles ≡ Some (Writing writer) → MayTurn writer work
+
+-- a writer stands under this name
+pub record HasWriter (name : HandleName) (work : Work) : Type 0 where
+  pub writer : Writer
+  pub stands : table.get work.handles name ≡ Some (Writing writer)
+  pub at_work : length (ready_of_writer writer.line work.jobs.held) ≤ writer.upload.pending
+  pub waited : (number : ℕ) → waiting_line writer.waiter ≡ Some number → HasBegun number work.lines
+
+-- The writer that stands under a name has had its turn. Where it was under way before, its name goes as its end says.
+pub record WriterTurned (name : HandleName) (was_under_way : Bool) (writer : Writer) (old new : Work) : Type 0 where
+  pub drops : List ℕ
+  pub asks : List Ask
+  pub own : List Answered
+  pub steps : new.record.steps ≡ change_last (with_part drops asks own) old.record.steps
+  pub lines : new.lines ≡ with_replies old.lines own
+  pub upload : Upload
+  pub told : own ≡ answer_to writer.waiter upload
+  pub turn : (step : Step) (all : List Job) → step.drops ≡ drops → step.asks ≡ asks → AreAll old.jobs all → IsTurn writer all step upload new.jobs own
+  pub shared : shared_in new ≡ handle_behind name writer upload (is_answered own) (if was_under_way then with_names (names_behind upload.state writer.key old.names) (shared_in old) else shared_in old)
+  pub time : new.time ≡ old.time
+
+-- a line that is to go on by itself asks or replies
+abbrev pub Speaks : Next → Type 0
+Speaks Waits = ⊥
+Speaks (Ends writer) = ⊥
+Speaks other = Unit {0}
+
 -- what is due is what the line does next behind its last answer; bytes that it gives are these
 pub record MayGoOn (number : ℕ) (due : Due) (last : Option Told) (bytes : List ℕ) (work : Work) : Type 0 where
   pub means : DueMeans due (owner_behind number last work) (next_behind number last work)
-  pub not_idle : (last ≡ None) ⊎ (next_behind number last work ≢ Waits)
+  pub whose : (s : Standing) → line_at number work.lines ≡ Some s → DueIsOf due number s.line.request (handle_of s.line work.handles)
+  pub not_idle : (last ≡ None) ⊎ Speaks (next_behind number last work)
   pub gives : (count : ℕ) → next_behind number last work ≡ Gives count → length bytes ≡ count
-
--- the line asks its call, gives its reply, or waits; the last answer has been heard
-pub record GoesOn (number : ℕ) (last : Option Told) (bytes : List ℕ) (old new : Work) : Type 0 where
-  pub asks : List Ask
-  pub own : List Answered
-  pub turn : TakesTurn (old.jobs.count + 1) (TurnOf number (owner_behind number last old) (next_behind number last old)) asks own
-  pub steps : new.record.steps ≡ change_last (with_turn asks own) old.record.steps
-  pub lines : new.lines ≡ with_replies (lines_behind number last old) own
-  pub jobs : new.jobs ≡ with_asks old.lines number asks old.jobs
-  pub time : new.time ≡ old.time
-  pub options : new.options ≡ old.options
-  pub shared : shared_in new ≡ shared_after (shared_in old) (lines_behind number last old) own
-  pub gives : AllByRecursion (GivesOnly bytes) own

@@ -1,16 +1,21 @@
 ghost use Rattle.std.specs.Prelude.{◌≡◌, ◌<◌, List, [], ◌↔◌, true, max, IfOk, IsTrue, Some, length, slice_get, option_copied};
 ghost use Rattle.std.specs.List.{AllByRecursion};
+ghost use Rattle.mp_types.specs.Options.{AreWithin};
 ghost use Rattle.bucket_model.specs.Answers.{MayBeMade, brief_of, bytes_in};
 ghost use Rattle.mount_model.specs.declared.event.Event.TheVariants.{Begin, Take, Done};
 ghost use Rattle.mount_model.specs.State.{Job, job_at};
+ghost use Rattle.bucket_model.specs.declared.call.Call.{Call};
+ghost use Rattle.job_table.specs.LiveJobs.{purpose_of};
+ghost use Rattle.mount_model.specs.Heard.{question_of};
 ghost use Rattle.mount_model.specs.Replies.{reply_to};
 ghost use Rattle.mount_model.specs.Run.{AreRising, IsRunSoFar, IsQuiet, MayDone, is_among, ready, startable};
 
 use crate::work::Work;
 use bucket_model::{Answer, Call};
 use bytes::Bytes;
-use job_table::Asker;
-use mount_model::{Record, Reply, Script, told_by};
+use job_table::Purpose;
+use mount_model::{Owner, Record, Reply, Script, told_by};
+use mp_rules::Question;
 use mp_types::Opts;
 use std::alloc::{AllocError, Global};
 use std::marker::Model;
@@ -41,12 +46,23 @@ fn bytes_of(answer: Answer) -> Bytes
     }
 }
 
+// The question that a call of this purpose asks, if it asks one.
+fn question_in(purpose: Purpose) -> Option<Question>
+    ensures { (called : Call) → purpose_of called ≡ purpose → result ≡ question_of called }
+{
+    match purpose {
+        Purpose::Question(question) => Some(question),
+        _ => None,
+    }
+}
+
 impl Core {
     ghost use Rattle.mount_core.specs.Core.{Advances, state_of};
 
     /// A mount with these options that has done nothing, for a script whose line numbers rise.
     pub fn new(alloc: Global, script: Script, options: Opts) -> Result<Self, AllocError>
-        requires { AreRising 0 script }
+        requires rising { AreRising 0 script }
+        requires within { AreWithin options }
         ensures options { IfOk result (λ core. core.options ≡ options) }
         ensures script { IfOk result (λ core. core.script ≡ script) }
         ensures steps { IfOk result (λ core. core.steps ≡ []) }
@@ -67,6 +83,7 @@ impl Core {
     pub fn startable_at(&self, i: usize) -> Option<u32>
         ensures value { result ≡ slice_get (startable (state_of self.now).lines) i }
         ensures rising { AreRising 0 self.now.script }
+        ensures within { AreWithin self.now.options }
         ensures run { IsRunSoFar self.now.options self.now.script self.now.steps }
     {
         self.work.lines.startable_at(i)
@@ -85,8 +102,7 @@ impl Core {
         ensures { Advances (Begin line (max (state_of self.old).time time)) [] self.old self.new }
     {
         self.work.begin_line(line, time);
-        let due = self.work.due(line, None);
-        self.work.go_on(line, due, None, Bytes::new());
+        self.work.turn_line(line, None, Bytes::new());
         self.work.answer_awaits();
     }
 
@@ -107,10 +123,15 @@ impl Core {
         requires { MayDone (state_of self.old) job position (brief_of answer) }
         ensures { Advances (Done job position (brief_of answer)) (bytes_in answer) self.old self.new }
     {
-        let Asker { line, question } = self.work.end_job(job, position, answer.brief());
-        let told = told_by(question, answer.brief());
-        let due = self.work.due(line, Some(&told));
-        self.work.go_on(line, due, Some(told), bytes_of(answer));
+        let asker = self.work.end_job(job, position, answer.brief());
+        if let Owner::Writer(opened) = asker.owner {
+            self.work.hear(opened, asker.purpose, answer.brief());
+            self.work.answer_awaits();
+            return;
+        }
+        let told = told_by(question_in(asker.purpose), answer.brief());
+        self.work
+            .turn_line(asker.line, Some(told), bytes_of(answer));
         self.work.answer_awaits();
     }
 
@@ -125,6 +146,7 @@ impl Core {
     pub fn record(&self) -> &Record
         ensures steps { result.now.steps ≡ self.now.steps }
         ensures rising { AreRising 0 self.now.script }
+        ensures within { AreWithin self.now.options }
         ensures run { IsRunSoFar self.now.options self.now.script self.now.steps }
     {
         self.work.record.record()
@@ -148,6 +170,7 @@ impl Core {
     pub fn startable_len(&self) -> usize
         ensures value { result ≡ length (startable (state_of self.now).lines) }
         ensures rising { AreRising 0 self.now.script }
+        ensures within { AreWithin self.now.options }
     {
         self.work.lines.startable_len()
     }

@@ -1,19 +1,21 @@
-ghost use Rattle.std.specs.Prelude.{◌≡◌, ◌<◌, ◌≤◌, length, IfOk, option_copied};
+ghost use Rattle.std.specs.Prelude.{◌≡◌, ℕ, ◌<◌, ◌≤◌, Option, length, IfOk, option_copied};
 ghost use Rattle.mp_types.specs.Content.{bytes_of};
 ghost use Rattle.bucket_model.specs.declared.call.Call.TheVariants.{Delete, Get, Head, Probe, Put};
-ghost use Rattle.mount_model.specs.Conversation.{Asks, Makes, Opens, next_of};
-ghost use Rattle.mount_model.specs.Handles.{owner_for};
-ghost use Rattle.mount_plan.specs.Meant.{with_last};
+ghost use Rattle.mount_model.specs.declared.request.Request.{Request};
+ghost use Rattle.mount_model.specs.Conversation.{Next, Asks, Makes, Opens, Creates, next_of};
+ghost use Rattle.mount_model.specs.Handles.{Handle as HandleAt, owner_for};
+ghost use Rattle.mount_plan.specs.Meant.{MeansOne, with_last};
 ghost use Rattle.mount_plan.specs.Seen.{view_of};
-ghost use Rattle.mount_core.specs.Due.{DueMeans, DueTells};
+ghost use Rattle.mount_core.specs.Due.{DueMeans, DueIsOf, DueTells};
 
 use bucket_model::Call;
 use bytes::Bytes;
-use job_table::Asking;
-use mount_model::{AskedCall, Handle, Heard, Owner, Reply, Request, Told, Version};
-use mount_plan::{Plan, View, plan};
+use job_table::{Asking, Purpose};
+use mount_model::{AskedCall, Handle, Heard, Owner, Reply, Request, Told, Version, Waiter};
+use mount_plan::{LinePlan, Plan, View, plan};
 use mp_rules::Question;
 use mp_types::{Data, ETag, Key, KeyFault};
+use part_uploader::Uploader;
 use std::alloc::{AllocError, Global};
 
 /// What is due of a line, with all the memory that it takes.
@@ -28,6 +30,12 @@ pub enum Due {
     RemoveDir,
     /// A handle on this version.
     Open(Version),
+    /// A handle on a new file of this key.
+    Create(Key),
+    /// The content of its request goes to the writer of its handle. No byte is copied before that.
+    Write,
+    /// The writer of its handle makes its object, and the line waits for it so.
+    Wait(Waiter),
     /// The bytes that the last answer brought, or none.
     Data,
     /// It waits for other lines.
@@ -69,35 +77,39 @@ fn three_keys(alloc: Global, text: &str) -> Result<(Key, Key, Key), AllocError>
     Ok((key, told, asked))
 }
 
-fn probe(alloc: Global, owner: Owner, text: &str) -> Due
+fn probe(alloc: Global, line: u32, owner: Owner, text: &str) -> Due
     requires not_empty { 0 < length text.now }
     requires short { length text.now ≤ 1024 }
     ensures means { DueMeans result owner (Asks (Probe text.now)) }
-    ensures tells { DueTells result }
+    ensures whose { (number : ℕ) (asked : Request) (handle : Option HandleAt) → DueIsOf result number asked handle }
+    ensures tells { DueTells result line }
 {
     match three_keys(alloc, text) {
         Ok((key, told, asked)) => Due::Call(Asking {
             owner,
+            line,
             call: Call::Probe { key },
             asked: AskedCall::Probe { key: told },
-            question: Some(Question::Probe(asked)),
+            purpose: Purpose::Question(Question::Probe(asked)),
         }),
         Err(_) => Due::NoMemory,
     }
 }
 
-fn head(alloc: Global, owner: Owner, text: &str) -> Due
+fn head(alloc: Global, line: u32, owner: Owner, text: &str) -> Due
     requires not_empty { 0 < length text.now }
     requires short { length text.now ≤ 1024 }
     ensures means { DueMeans result owner (Asks (Head text.now)) }
-    ensures tells { DueTells result }
+    ensures whose { (number : ℕ) (asked : Request) (handle : Option HandleAt) → DueIsOf result number asked handle }
+    ensures tells { DueTells result line }
 {
     match three_keys(alloc, text) {
         Ok((key, told, asked)) => Due::Call(Asking {
             owner,
+            line,
             call: Call::Head { key },
             asked: AskedCall::Head { key: told },
-            question: Some(Question::Head(asked)),
+            purpose: Purpose::Question(Question::Head(asked)),
         }),
         Err(_) => Due::NoMemory,
     }
@@ -109,13 +121,15 @@ fn copy_twice(alloc: Global, key: &Key) -> Result<(Key, Key), AllocError>
     Ok((key.copy(alloc)?, key.copy(alloc)?))
 }
 
-fn get(alloc: Global, owner: Owner, version: &Version, from: u64, to: u64) -> Due
+fn get(alloc: Global, line: u32, owner: Owner, version: &Version, from: u64, to: u64) -> Due
     ensures means { DueMeans result owner (Asks (Get version.now.key version.now.etag from to)) }
-    ensures tells { DueTells result }
+    ensures whose { (number : ℕ) (asked : Request) (handle : Option HandleAt) → DueIsOf result number asked handle }
+    ensures tells { DueTells result line }
 {
     match copy_twice(alloc, &version.key) {
         Ok((key, told)) => Due::Call(Asking {
             owner,
+            line,
             call: Call::Get {
                 key,
                 etag: version.etag.copy(),
@@ -128,24 +142,26 @@ fn get(alloc: Global, owner: Owner, version: &Version, from: u64, to: u64) -> Du
                 from,
                 to,
             },
-            question: None,
+            purpose: Purpose::Other,
         }),
         Err(_) => Due::NoMemory,
     }
 }
 
-fn delete(alloc: Global, owner: Owner, text: &str) -> Due
+fn delete(alloc: Global, line: u32, owner: Owner, text: &str) -> Due
     requires not_empty { 0 < length text.now }
     requires short { length text.now ≤ 1024 }
     ensures means { DueMeans result owner (Asks (Delete text.now)) }
-    ensures tells { DueTells result }
+    ensures whose { (number : ℕ) (asked : Request) (handle : Option HandleAt) → DueIsOf result number asked handle }
+    ensures tells { DueTells result line }
 {
     match two_keys(alloc, text) {
         Ok((key, told)) => Due::Call(Asking {
             owner,
+            line,
             call: Call::Delete { key },
             asked: AskedCall::Delete { key: told },
-            question: None,
+            purpose: Purpose::Other,
         }),
         Err(_) => Due::NoMemory,
     }
@@ -168,18 +184,20 @@ fn put_parts(alloc: Global, key: &Key, content: &Data) -> Result<(Key, Key, Byte
     Ok((sent, told, bytes))
 }
 
-fn put(alloc: Global, owner: Owner, key: &Key, content: &Data) -> Due
+fn put(alloc: Global, line: u32, owner: Owner, key: &Key, content: &Data) -> Due
     ensures means { DueMeans result owner (Asks (Put key.now (bytes_of content.now))) }
-    ensures tells { DueTells result }
+    ensures whose { (number : ℕ) (asked : Request) (handle : Option HandleAt) → DueIsOf result number asked handle }
+    ensures tells { DueTells result line }
 {
     match put_parts(alloc, key, content) {
         Ok((key, told, bytes)) => {
             let length = bytes.len() as u64;
             Due::Call(Asking {
                 owner,
+                line,
                 call: Call::Put { key, bytes },
                 asked: AskedCall::Put { key: told, length },
-                question: None,
+                purpose: Purpose::Other,
             })
         }
         Err(_) => Due::NoMemory,
@@ -190,7 +208,8 @@ fn make_dir(alloc: Global, text: &str) -> Due
     requires not_empty { 0 < length text.now }
     requires short { length text.now ≤ 1024 }
     ensures means { (owner : Owner) → DueMeans result owner (Makes text.now) }
-    ensures tells { DueTells result }
+    ensures whose { (number : ℕ) (asked : Request) (handle : Option HandleAt) → DueIsOf result number asked handle }
+    ensures tells { (line : ℕ) → DueTells result line }
 {
     match key_of(alloc, text) {
         Ok(key) => Due::MakeDir(key),
@@ -202,7 +221,8 @@ fn open(alloc: Global, text: &str, etag: ETag, size: u64) -> Due
     requires not_empty { 0 < length text.now }
     requires short { length text.now ≤ 1024 }
     ensures means { (owner : Owner) → DueMeans result owner (Opens (record { key = text.now; etag = etag; size = size })) }
-    ensures tells { DueTells result }
+    ensures whose { (number : ℕ) (asked : Request) (handle : Option HandleAt) → DueIsOf result number asked handle }
+    ensures tells { (line : ℕ) → DueTells result line }
 {
     match key_of(alloc, text) {
         Ok(key) => Due::Open(Version { key, etag, size }),
@@ -210,16 +230,53 @@ fn open(alloc: Global, text: &str, etag: ETag, size: u64) -> Due
     }
 }
 
+fn create(alloc: Global, text: &str) -> Due
+    requires not_empty { 0 < length text.now }
+    requires short { length text.now ≤ 1024 }
+    ensures means { (owner : Owner) → DueMeans result owner (Creates text.now) }
+    ensures whose { (number : ℕ) (asked : Request) (handle : Option HandleAt) → DueIsOf result number asked handle }
+    ensures tells { (line : ℕ) → DueTells result line }
+{
+    match key_of(alloc, text) {
+        Ok(key) => Due::Create(key),
+        Err(_) => Due::NoMemory,
+    }
+}
+
 // Whose jobs the line asks for: a read asks for the stream of its handle.
-fn owner_of(line: u32, request: &Request, handle: Option<&Handle>) -> Owner
+fn owner_of(line: u32, request: &Request, handle: Option<&Handle<Uploader>>) -> Owner
     ensures { result ≡ owner_for line request.now (option_copied handle.entry) }
 {
     match request {
         Request::Read { .. } => match handle {
-            Some(handle) => Owner::Stream(handle.line),
-            None => Owner::Line(line),
+            Some(Handle::Reading { line: opened, .. }) => Owner::Stream(*opened),
+            Some(Handle::Writing(_)) | None => Owner::Line(line),
         },
         _ => Owner::Line(line),
+    }
+}
+
+// What a line does next by itself, with all the memory that it takes.
+fn line_due(alloc: Global, line: u32, owner: Owner, plan: LinePlan) -> Due
+    requires { (next : Next) × MeansOne plan next }
+    ensures means { (next : Next) → MeansOne plan.entry next → DueMeans result owner next }
+    ensures whose { (number : ℕ) (asked : Request) (handle : Option HandleAt) → DueIsOf result number asked handle }
+    ensures tells { DueTells result line }
+{
+    match plan {
+        LinePlan::Probe(key) => probe(alloc, line, owner, key),
+        LinePlan::Head(key) => head(alloc, line, owner, key),
+        LinePlan::Get { version, from, to } => get(alloc, line, owner, version, from, to),
+        LinePlan::Delete(key) => delete(alloc, line, owner, key.as_str()),
+        LinePlan::Unlink(key) => delete(alloc, line, owner, key),
+        LinePlan::Put { key, content } => put(alloc, line, owner, key, content),
+        LinePlan::MakeDir(key) => make_dir(alloc, key),
+        LinePlan::RemoveDir(_) => Due::RemoveDir,
+        LinePlan::Open { key, etag, size } => open(alloc, key, etag, size),
+        LinePlan::Create { key } => create(alloc, key),
+        LinePlan::Give { .. } => Due::Data,
+        LinePlan::Reply(reply) => Due::Reply(reply),
+        LinePlan::Wait => Due::Nothing,
     }
 }
 
@@ -227,28 +284,21 @@ fn owner_of(line: u32, request: &Request, handle: Option<&Handle>) -> Owner
 /// answer apart.
 pub fn due_of(
     alloc: Global,
-    line: u32,
     view: View,
     request: &Request,
     heard: &Heard,
     last: Option<&Told>,
 ) -> Due
-    ensures means { DueMeans result (owner_for line request.now (view_of view.entry).handle) (next_of (view_of view.entry) request.now (with_last (option_copied last.entry) heard.now)) }
-    ensures tells { DueTells result }
+    ensures means { DueMeans result (owner_for (view_of view.entry).line request.now (view_of view.entry).handle) (next_of (view_of view.entry) request.now (with_last (option_copied last.entry) heard.now)) }
+    ensures whose { DueIsOf result (view_of view.entry).line request.now (view_of view.entry).handle }
+    ensures tells { DueTells result (view_of view.entry).line }
 {
+    let line = view.line;
     let owner = owner_of(line, request, view.handle);
     match plan(view, request, heard, last) {
-        Plan::Probe(key) => probe(alloc, owner, key),
-        Plan::Head(key) => head(alloc, owner, key),
-        Plan::Get { version, from, to } => get(alloc, owner, version, from, to),
-        Plan::Delete(key) => delete(alloc, owner, key.as_str()),
-        Plan::Unlink(key) => delete(alloc, owner, key),
-        Plan::Put { key, content } => put(alloc, owner, key, content),
-        Plan::MakeDir(key) => make_dir(alloc, key),
-        Plan::RemoveDir(_) => Due::RemoveDir,
-        Plan::Open { key, etag, size } => open(alloc, key, etag, size),
-        Plan::Give { .. } => Due::Data,
-        Plan::Reply(reply) => Due::Reply(reply),
-        Plan::Wait => Due::Nothing,
+        Plan::Line(plan) => line_due(alloc, line, owner, plan),
+        Plan::Write { .. } => Due::Write,
+        Plan::Sync { .. } => Due::Wait(Waiter::Sync(line)),
+        Plan::Finish { .. } => Due::Wait(Waiter::Close(line)),
     }
 }

@@ -7,6 +7,7 @@ mod due;
 mod seen;
 mod turn;
 mod work;
+mod writing;
 
 pub use client::Core;
 

@@ -1,13 +1,11 @@
-ghost use Rattle.std.specs.Prelude.{◌≡◌, ◌≢◌, ℕ, List, false, Some, None, OnOk, OnErr};
-ghost use Rattle.std.specs.FinMap.{get, insert, len};
-ghost use Rattle.mp_types.specs.HandleName.{max_handles};
+ghost use Rattle.std.specs.Prelude.{◌≡◌, ◌≢◌, ℕ, List, length, false, Some, None, OnOk, OnErr, ◌⊎◌};
 ghost use Rattle.mount_model.specs.declared.standing.Standing.{Standing};
-ghost use Rattle.mount_model.specs.Heard.{question_of};
-ghost use Rattle.mount_model.specs.Step.{MayAsk, HasStep};
-ghost use Rattle.mount_model.specs.State.{by_reply, closes, line_at, opens, succeeds};
-ghost use Rattle.mount_model.specs.Conversation.{Makes, Opens, Removes, Replies};
+ghost use Rattle.mount_model.specs.Step.{Step, HasStep};
+ghost use Rattle.mount_model.specs.State.{by_reply, closes, has_effect, line_at};
+ghost use Rattle.mount_model.specs.Conversation.{Gives, Makes, Opens, Removes, Replies};
 ghost use Rattle.mount_model.specs.Run.{asked_of, due_awaits};
 ghost use Rattle.line_table.specs.Table.{HasBegun};
+ghost use Rattle.job_table.specs.LiveJobs.{purpose_of};
 ghost use Rattle.local_names.specs.Names.{is_name};
 ghost use Rattle.mount_core.specs.Due.{DueTells};
 
@@ -17,33 +15,13 @@ use crate::work::Work;
 use bytes::Bytes;
 use job_table::Asking;
 use mount_model::{Handle, Reply, Request, Told, Version};
-use mp_handles::{Handles, OpenFault};
 use mp_types::{Errno, Key, below_root};
 use std::alloc::AllocError;
 
-// One more handle, under a name that is free, where there is a place for it.
-fn put_handle(
-    handles: &mut Handles<Handle>,
-    actor: u16,
-    name: u16,
-    handle: Handle,
-) -> Result<(), AllocError>
-    requires free { get handles.old (actor, name) ≡ None }
-    requires place { len handles.old ≢ max_handles }
-    ensures ok { OnOk result (handles.new ≡ insert handles.old (actor, name) handle) }
-    ensures err { OnErr result (handles.new ≡ handles.old) }
-{
-    match handles.open(actor, name, handle) {
-        Ok(()) => Ok(()),
-        Err((OpenFault::Memory, _)) => Err(AllocError),
-        Err((OpenFault::InUse, _)) => unreachable!(),
-        Err((OpenFault::Full, _)) => unreachable!(),
-    }
-}
-
 impl Work {
     ghost use Rattle.mount_core.specs.Shared.{shared_in};
-    ghost use Rattle.mount_core.specs.Turn.{Answers, Asks, AsksNot, Ends, GoesOn, MayGoOn, MayOpen, RemovesDir, SharedAlone, lines_behind};
+    ghost use Rattle.mount_core.specs.Turn.{NamedMayTurn, Answers, MayGoOn, MayOpen, RemovesDir, SharedAlone, Speaks, Takes, lines_behind, next_behind, turn_behind};
+    ghost use Rattle.mount_core.specs.Ends.{Asks, AsksNot, Ends};
 
     /// The last answer, if it stands apart, is kept behind the line's others.
     fn keep_answer(&mut self, line: u32, last: Option<Told>) -> Result<(), AllocError>
@@ -64,22 +42,23 @@ impl Work {
     /// The line asks for a call. The last answer is kept first, so that an error may leave it heard.
     fn ask_call(&mut self, line: u32, asking: Asking, last: Option<Told>) -> Result<(), AllocError>
         requires begun { HasBegun line self.old.lines }
-        requires may { MayAsk self.old.record.steps }
+        requires step { HasStep self.old.record.steps }
         requires told { asking.asked ≡ asked_of asking.call }
-        requires asks { asking.question ≡ question_of asking.call }
+        requires asks { asking.purpose ≡ purpose_of asking.call }
+        requires of_line { asking.line ≡ line }
         ensures ok { OnOk result (Asks line asking.owner asking.call last self.old self.new) }
         ensures err { OnErr result (AsksNot line self.old self.new) }
         ensures shared { shared_in self.new ≡ shared_in self.old }
     {
         self.keep_answer(line, last)?;
-        self.jobs.ask(&mut self.record, self.owed, line, asking)?;
+        self.jobs.ask(&mut self.record, self.owed, asking)?;
         self.owed += 2;
         Ok(())
     }
 
     /// The handle that the line closes, if it closes one, is given up.
     fn close_handle(&mut self, line: u32)
-        ensures shared { (s : Standing) → line_at line self.old.lines ≡ Some s → shared_in self.new ≡ closes s.line.request s.line.actor (shared_in self.old) }
+        ensures shared { (s : Standing) → line_at line self.old.lines ≡ Some s → shared_in self.new ≡ closes s.line (shared_in self.old) }
         ensures alone { SharedAlone self.old self.new }
     {
         if let Some(standing) = self.lines.standing(line) {
@@ -91,7 +70,7 @@ impl Work {
 
     /// A close that succeeds gives its handle up.
     fn give_up(&mut self, line: u32, reply: &Reply)
-        ensures shared { (s : Standing) → line_at line self.old.lines ≡ Some s → shared_in self.new ≡ by_reply (Replies reply.now) s.line reply.now (shared_in self.old) }
+        ensures shared { (s : Standing) (step : Step) → line_at line self.old.lines ≡ Some s → shared_in self.new ≡ by_reply (Replies reply.now) s.line step (shared_in self.old) (Some reply.now) }
         ensures alone { SharedAlone self.old self.new }
     {
         match reply {
@@ -104,21 +83,21 @@ impl Work {
     fn keep_handle(&mut self, line: u32, version: Version) -> Result<(), AllocError>
         requires begun { HasBegun line self.old.lines }
         requires may { MayOpen line self.old }
-        ensures ok { (s : Standing) → line_at line self.old.lines ≡ Some s → OnOk result (shared_in self.new ≡ opens (Opens version) s.line (shared_in self.old)) }
+        ensures ok { (s : Standing) → line_at line self.old.lines ≡ Some s → OnOk result (shared_in self.new ≡ has_effect (Opens version) s.line (shared_in self.old)) }
         ensures err { OnErr result (shared_in self.new ≡ shared_in self.old) }
         ensures alone { SharedAlone self.old self.new }
     {
         let Some(standing) = self.lines.standing(line) else {
             unreachable!()
         };
-        let handle = Handle {
+        let handle = Handle::Reading {
             line: standing.line.number,
             version,
         };
-        match name_in(&standing.line.request) {
-            Some(name) => put_handle(&mut self.handles, standing.line.actor, name, handle),
-            None => Ok(()),
-        }
+        let Some(name) = name_in(&standing.line.request) else {
+            unreachable!()
+        };
+        file_handles::open(&mut self.handles, standing.line.actor, name, handle)
     }
 
     /// The line's open succeeds, where there is memory for its handle.
@@ -152,7 +131,7 @@ impl Work {
     /// takes no memory.
     fn remove_name(&mut self, line: u32)
         requires { (key : List ℕ) × RemovesDir line key self.old.lines }
-        ensures shared { (key : List ℕ) (s : Standing) → RemovesDir line key self.old.lines → shared_in self.new ≡ succeeds (Removes key) s.line (shared_in self.old) }
+        ensures shared { (key : List ℕ) (s : Standing) → RemovesDir line key self.old.lines → shared_in self.new ≡ has_effect (Removes key) s.line (shared_in self.old) }
         ensures alone { SharedAlone self.old self.new }
     {
         let Some(standing) = self.lines.standing(line) else {
@@ -178,14 +157,15 @@ impl Work {
         self.reply_line(line, Reply::Success);
     }
 
-    /// The line does what is due: it asks, replies, makes or removes its directory, opens, gives these bytes or waits.
-    /// Where a call, a handle or a directory finds no memory, the reply says so.
+    /// The line does what is due: it asks, replies, makes or removes its directory, opens, writes, gives these bytes or
+    /// waits. Where a call, a handle or a directory finds no memory, the reply says so.
     pub fn go_on(&mut self, line: u32, due: Due, last: Option<Told>, bytes: Bytes)
         requires begun { HasBegun line self.old.lines }
-        requires may { MayAsk self.old.record.steps }
-        requires tells { DueTells due }
+        requires step { HasStep self.old.record.steps }
+        requires tells { DueTells due line }
         requires turn { MayGoOn line due last bytes self.old }
-        ensures { GoesOn line last bytes self.old self.new }
+        requires writers { NamedMayTurn line self.old }
+        ensures { Takes (turn_behind line last self.old) (lines_behind line last self.old) bytes self.old self.new }
     {
         match due {
             Due::Call(asking) => match self.ask_call(line, asking, last) {
@@ -200,9 +180,25 @@ impl Work {
             Due::MakeDir(key) => self.make_dir(line, key),
             Due::RemoveDir => self.remove_dir(line),
             Due::Open(version) => self.open(line, version),
+            Due::Create(key) => self.create(line, key),
+            Due::Write => self.write(line),
+            Due::Wait(waiter) => self.wait(line, waiter),
             Due::Data => self.reply_line(line, Reply::Data(bytes)),
             Due::Nothing => {}
         }
+    }
+
+    /// The line's turn, behind this last answer. Bytes that it gives are these.
+    pub fn turn_line(&mut self, line: u32, last: Option<Told>, bytes: Bytes)
+        requires begun { HasBegun line self.old.lines }
+        requires step { HasStep self.old.record.steps }
+        requires not_idle { (last ≡ None) ⊎ Speaks (next_behind line last self.old) }
+        requires gives { (count : ℕ) → next_behind line last self.old ≡ Gives count → length bytes ≡ count }
+        requires writers { NamedMayTurn line self.old }
+        ensures { Takes (turn_behind line last self.old) (lines_behind line last self.old) bytes self.old self.new }
+    {
+        let due = self.due(line, last.as_ref());
+        self.go_on(line, due, last, bytes);
     }
 
     /// Each await that has become due gets its reply, one after another.

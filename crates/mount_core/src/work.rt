@@ -1,17 +1,20 @@
-ghost use Rattle.std.specs.Prelude.{◌≡◌, ◌≢◌, ◌+◌, ◌<◌, ◌≤◌, List, [], ◌∷◌, ◌++◌, map, max, true, Option, Some, None, IfOk, option_copied};
-ghost use Rattle.std.specs.FinSet.{len};
+ghost use Rattle.std.specs.Prelude.{◌≡◌, ◌≢◌, ◌+◌, ◌^◌, ◌<◌, ◌≤◌, List, [], ◌∷◌, ◌++◌, map, max, true, Option, Some, None, IfOk, option_copied};
+ghost use Rattle.mp_types.specs.Options.{AreWithin};
 ghost use Rattle.mount_model.specs.declared.event.Event.TheVariants.{Begin, Take, Done};
 ghost use Rattle.mount_model.specs.declared.standing.Phase.TheVariants.{Begun};
 ghost use Rattle.mount_model.specs.Heard.{nothing_heard};
 ghost use Rattle.mount_model.specs.Step.{step_of, HasStep};
-ghost use Rattle.mount_model.specs.State.{opening, change_line, shared_at_first};
+ghost use Rattle.mount_model.specs.declared.standing.Standing.{Standing};
+ghost use Rattle.mount_model.specs.Handles.{handle_of};
+ghost use Rattle.mount_model.specs.State.{opening, change_line, line_at, shared_at_first};
 ghost use Rattle.mount_model.specs.Run.{AreRising, startable, is_among};
 ghost use Rattle.line_table.specs.Table.{HasBegun};
 ghost use Rattle.job_table.specs.LiveJobs.{Held, held_at, with_taken, without, IsReadyIn, IsOutIn};
-ghost use Rattle.mount_core.specs.Due.{DueMeans, DueTells};
+ghost use Rattle.mount_core.specs.Due.{DueMeans, DueIsOf, DueTells};
 ghost use Rattle.job_table.specs.Journal.{all_known};
 ghost use Rattle.mount_core.specs.Rising.{AreRising-prop};
-ghost use Rattle.mount_core.specs.Room.{owes_lines, owes_jobs};
+ghost use Rattle.core_writes.specs.Owed.{owes_jobs};
+ghost use Rattle.mount_core.specs.Room.{owes_lines};
 
 use crate::due::{Due, due_of};
 use bucket_model::{Brief, Call};
@@ -21,6 +24,7 @@ use local_names::Locals;
 use mount_model::{Answered, Event, Handle, Phase, Reply, Script, Told};
 use mp_handles::Handles;
 use mp_types::Opts;
+use part_uploader::Uploader;
 use std::alloc::{AllocError, Global};
 
 /// The parts of the mount. The record has room for all that lines and jobs still owe it, and a place for the reply
@@ -32,7 +36,7 @@ pub struct Work {
     pub record: Journal,
     pub options: Opts,
     /// The live handles, by the process that opened each and the name that it gave.
-    pub handles: Handles<Handle>,
+    pub handles: Handles<Handle<Uploader>>,
     /// The mount's own names.
     pub names: Locals,
     pub time: u64,
@@ -42,7 +46,8 @@ pub struct Work {
     ghost counted: { owes_lines lines + owes_jobs jobs.held ≤ owed },
     ghost enough: { owed ≤ record.room },
     ghost knows: { all_known record.known (map (λ s. s.line) lines) ≡ true },
-    ghost no_files: { len names.files ≡ 0 },
+    ghost part_low: { 1 ≤ options.part },
+    ghost part_high: { options.part ≤ 2 ^ 30 },
     ghost rising: { AreRising 0 (map (λ s. s.line) lines) } by { AreRising-prop 0 (map (λ s. s.line) lines) },
 }
 
@@ -52,7 +57,8 @@ impl Work {
 
     /// Nothing has begun. Room for the begin and the reply of each line is made here.
     pub fn start(alloc: Global, script: Script, options: Opts) -> Result<Self, AllocError>
-        requires { AreRising 0 script }
+        requires rising { AreRising 0 script }
+        requires within { AreWithin options }
         ensures lines { IfOk result (λ work. work.lines ≡ (opening options script).lines) }
         ensures jobs { IfOk result (λ work. (work.jobs.count ≡ 0) × (work.jobs.held ≡ [])) }
         ensures steps { IfOk result (λ work. work.record.steps ≡ []) }
@@ -115,7 +121,7 @@ impl Work {
     /// The step of a job's end begins, and the turn of who asked for it.
     pub fn end_job(&mut self, job: u64, position: u64, answer: Brief) -> Asker
         requires { IsOutIn job self.old.jobs.held }
-        ensures asker { (h : Held) → held_at job self.old.jobs.held ≡ Some h → (result.line ≡ h.line) × (result.question ≡ h.question) }
+        ensures asker { (h : Held) → held_at job self.old.jobs.held ≡ Some h → (result.owner ≡ h.owner) × (result.line ≡ h.line) × (result.purpose ≡ h.purpose) }
         ensures time { self.new.time ≡ self.old.time }
         ensures steps { self.new.record.steps ≡ self.old.record.steps ++ step_of (Done job position answer) ∷ [] }
         ensures lines { self.new.lines ≡ self.old.lines }
@@ -144,7 +150,8 @@ impl Work {
     pub fn due(&self, line: u32, last: Option<&Told>) -> Due
         requires { HasBegun line self.now.lines }
         ensures means { DueMeans result (owner_behind line (option_copied last.entry) self.now) (next_behind line (option_copied last.entry) self.now) }
-        ensures tells { DueTells result }
+        ensures whose { (s : Standing) → line_at line self.now.lines ≡ Some s → DueIsOf result line s.line.request (handle_of s.line self.now.handles) }
+        ensures tells { DueTells result line }
     {
         let Some(standing) = self.lines.standing(line) else {
             unreachable!()
@@ -152,7 +159,6 @@ impl Work {
         match &standing.phase {
             Phase::Begun(heard) => due_of(
                 self.alloc,
-                line,
                 self.view(&standing.line),
                 &standing.line.request,
                 heard,

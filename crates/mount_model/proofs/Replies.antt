@@ -5,7 +5,7 @@ use Rattle.bucket_model.specs.Along.{Along}
 use Rattle.mount_model.specs.declared.event.Answered.{Answered}
 use Rattle.mount_model.specs.declared.record.Item.{Item}
 use Rattle.mount_model.specs.declared.record.Item.TheVariants as item
-use Rattle.mount_model.specs.Step.{Step, step_of, with_ask, with_reply, change_last, with_item, steps_of, MayFollow, IsInOrder}
+use Rattle.mount_model.specs.Step.{Step, step_of, with_drop, with_ask, with_reply, change_last, with_item, steps_of, MayFollow, IsRow}
 use Rattle.mount_model.specs.Replies.{replies_of, replies_in}
 use Rattle.mount_model.proofs.Order.{change_last-push}
 
@@ -22,6 +22,7 @@ replies_of-change_last f more steps before last are grows =
 -- one item more
 replies_of-item : (steps : List Step) (item : Item) → MayFollow steps item → replies_of (with_item steps item) ≡ replies_of steps ++ replies_in item
 replies_of-item steps (item.Event event) may = replies_of-push steps (step_of event)
+replies_of-item steps (item.Drop job) may = replies_of-change_last (with_drop job) [] steps may.before may.last may.are (sym (append-nil may.last.replies))
 replies_of-item steps (item.Ask ask) may = replies_of-change_last (with_ask ask) [] steps may.before may.last may.are (sym (append-nil may.last.replies))
 replies_of-item steps (item.Reply reply) may = replies_of-change_last (with_reply reply) (reply ∷ []) steps may.before may.last may.are refl
 
@@ -29,5 +30,5 @@ replies_of-items : (steps : List Step) (items : List Item) → Along MayFollow w
 replies_of-items steps [] run = sym (append-nil (replies_of steps))
 replies_of-items steps (item ∷ items) run = replies_of-items (with_item steps item) items run.1 ∙ (ap (λ r. r ++ flat_map replies_in items) (replies_of-item steps item run.0) ∙ append_assoc (replies_of steps) (replies_in item) (flat_map replies_in items))
 
-pub replies_of-in_order : (items : List Item) → IsInOrder items → replies_of (steps_of items) ≡ flat_map replies_in items
-replies_of-in_order items order = replies_of-items [] items order
+pub replies_of-row : (items : List Item) → IsRow items → replies_of (steps_of items) ≡ flat_map replies_in items
+replies_of-row items row = replies_of-items [] items row

@@ -1,13 +1,13 @@
 -- What a line does next, by what it sees of the mount and what it has heard of its own calls so far.
-use Rattle.std.specs.Prelude.{ℕ, ◌+◌, List, [], ◌∷◌, ◌++◌, min, Bool, ◌||◌, ◌==◌, nat_le, if◌then◌else◌, Option, Some, None, Result, Ok, Err}
+use Rattle.std.specs.Prelude.{ℕ, ◌+◌, ◌*◌, List, [], ◌∷◌, length, min, Bool, true, false, not, ◌||◌, ◌==◌, nat_le, nat_lt, if◌then◌else◌, Option, Some, None, Result, Ok, Err}
 use Rattle.mp_types.specs.declared.errno.Errno.{Errno}
-use Rattle.mp_types.specs.declared.errno.Errno.TheVariants.{Eperm, Eio, Ebadf, Enomem, Enoent, Eexist, Eisdir, Enotdir, Einval, Emfile, Enametoolong, Enotempty, Estale}
+use Rattle.mp_types.specs.declared.errno.Errno.TheVariants.{Eperm, Eio, Ebadf, Enomem, Enoent, Eexist, Eisdir, Enotdir, Einval, Emfile, Efbig, Enametoolong, Enotempty, Estale}
 use Rattle.mp_types.specs.declared.path.PathFault.{PathFault}
 use Rattle.mp_types.specs.declared.path.PathFault.TheVariants as fault
 use Rattle.mp_types.specs.Content.{bytes_of}
 use Rattle.mp_types.specs.Path.{path_of, joined}
 use Rattle.mp_rules.specs.declared.entry.Entry.{Entry}
-use Rattle.mp_rules.specs.declared.entry.Entry.TheVariants.{RemoteDir, LocalDir, File, Nothing}
+use Rattle.mp_rules.specs.declared.entry.Entry.TheVariants.{RemoteDir, LocalDir, LocalFile, File, Nothing}
 use Rattle.mp_rules.specs.Walk.{Decision, Need, Is, Refused, fact_in, walk}
 use Rattle.mp_rules.specs.Local.{LocalNames, local_at, has_name_below}
 use Rattle.mp_types.specs.declared.options.Opts.{Opts}
@@ -16,29 +16,40 @@ use Rattle.bucket_model.specs.declared.call.Call.{Call}
 use Rattle.bucket_model.specs.declared.call.Call.TheVariants as call
 use Rattle.bucket_model.specs.declared.answer.Brief.{Brief}
 use Rattle.bucket_model.specs.declared.answer.Brief.TheVariants.{Missing, Bytes, Changed, Gone, Made, NoMemory}
+use Rattle.bucket_model.specs.Answers.{max_parts}
+use Rattle.upload_rules.specs.declared.upload.UpState.{UpState}
+use Rattle.upload_rules.specs.declared.upload.UpState.TheVariants as state
+use Rattle.upload_rules.specs.Upload.{Upload, written, with_bytes, with_closing, finished}
 use Rattle.mount_model.specs.declared.standing.Heard.{Heard}
 use Rattle.mount_model.specs.Heard.{call_of}
-use Rattle.mount_model.specs.declared.handle.Handle.{Handle}
+use Rattle.mount_model.specs.declared.handle.Handle.TheVariants.{Reading, Writing}
 use Rattle.mount_model.specs.declared.handle.Version.{Version}
+use Rattle.mount_model.specs.declared.handle.Waiter.{Waiter}
+use Rattle.mount_model.specs.declared.handle.Waiter.TheVariants as waiter
 use Rattle.mount_model.specs.declared.request.Request.{Request}
-use Rattle.mount_model.specs.declared.request.Request.TheVariants.{Put, Await, Stat, OpenRead, Read, Close, Delete, MakeDir, RemoveDir, Unlink}
+use Rattle.mount_model.specs.declared.request.Request.TheVariants.{Put, Await, Stat, OpenRead, OpenWrite, OpenTruncate, Read, Write, Sync, Close, Delete, MakeDir, RemoveDir, Unlink}
 use Rattle.mount_model.specs.declared.request.Reply.{Reply}
 use Rattle.mount_model.specs.declared.request.Reply.TheVariants as reply
+use Rattle.mount_model.specs.Handles.{Handle, Writer}
 
--- A line asks one call at a time, replies, makes or removes the directory of a key, opens a handle on a version, gives
--- the bytes of its last answer, or waits for other lines.
+-- A line asks one call at a time, replies, makes or removes the directory of a key, opens a handle on a version or on a
+-- new file, gives the bytes of its last answer, has its writer go on from here, or waits for other lines.
 pub data Next : Type 0 where
   Asks : Call → Next
   Replies : Reply → Next
   Makes : List ℕ → Next
   Removes : List ℕ → Next
   Opens : Version → Next
+  Creates : List ℕ → Next
   Gives : ℕ → Next
+  Writes : ℕ → Writer → Next
+  Ends : Writer → Next
   Waits : Next
 
--- what a line sees of the mount: its options, the handle that it names where that is live, how many handles are live,
--- and the mount's own names
+-- what a line sees of the mount: its number, the options, the handle that it names where that is live, how many
+-- handles are live, and the mount's own names
 pub record View : Type 0 where
+  pub line : ℕ
   pub options : Opts
   pub handle : Option Handle
   pub live : ℕ
@@ -53,10 +64,9 @@ errno_of NoMemory = Enomem
 errno_of answer = Eio
 
 abbrev pub errno_of_path : PathFault → Errno
-errno_of_path fault.Empty = Einval
 errno_of_path fault.TooLong = Enametoolong
-errno_of_path (fault.BadName place) = Einval
 errno_of_path fault.Memory = Enomem
+errno_of_path other = Einval
 
 -- others store an object: one call, and its ETag
 abbrev pub put_next : List ℕ → List ℕ → List Brief → Next
@@ -85,6 +95,7 @@ along view root at (name ∷ names) heard = at_path at (walk (fact_in heard.fact
 abbrev pub stat_at : Entry → Next
 stat_at RemoteDir = Replies reply.Directory
 stat_at LocalDir = Replies reply.Directory
+stat_at (LocalFile size) = Replies (reply.Writing size)
 stat_at (File etag size) = Replies (reply.File size)
 stat_at Nothing = fails Enoent
 
@@ -93,18 +104,31 @@ abbrev pub stat_next : View → Result (List (List ℕ)) PathFault → Heard →
 stat_next view (Err why) heard = fails (errno_of_path why)
 stat_next view (Ok names) heard = along view (Replies reply.Directory) stat_at names heard
 
--- a file is opened as its Head found it, while fewer than the most handles are live
+-- a handle is opened while fewer than the most are live
+abbrev pub opens_if : ℕ → Next → Next
+opens_if live opened = if live == max_handles then fails Emfile else opened
+
+-- a file is opened as its Head found it; one that is being written can't be read
 abbrev pub open_at : ℕ → List ℕ → Entry → Next
 open_at live key RemoteDir = fails Eisdir
 open_at live key LocalDir = fails Eisdir
-open_at live key (File etag size) = if live == max_handles then fails Emfile else Opens (record { key = key; etag = etag; size = size })
+open_at live key (LocalFile size) = fails Eperm
+open_at live key (File etag size) = opens_if live (Opens (record { key = key; etag = etag; size = size }))
 open_at live key Nothing = fails Enoent
 
--- an open for reading: behind the path's own faults, the handle's name has to be free
-abbrev pub open_next : View → Option Handle → Result (List (List ℕ)) PathFault → Heard → Next
-open_next view handle (Err why) heard = fails (errno_of_path why)
-open_next view (Some handle) (Ok names) heard = fails Einval
-open_next view None (Ok names) heard = along view (fails Eisdir) (open_at view.live (joined names)) names heard
+-- a new file stands in the place of nothing, or of an object that may be overwritten
+abbrev pub create_at : Bool → ℕ → List ℕ → Entry → Next
+create_at may_overwrite live key RemoteDir = fails Eisdir
+create_at may_overwrite live key LocalDir = fails Eisdir
+create_at may_overwrite live key (LocalFile size) = fails Eperm
+create_at may_overwrite live key (File etag size) = if may_overwrite then opens_if live (Creates key) else fails Eperm
+create_at may_overwrite live key Nothing = opens_if live (Creates key)
+
+-- an open: behind the path's own faults, the handle's name has to be free
+abbrev pub open_next : (ℕ → List ℕ → Entry → Next) → View → Option Handle → Result (List (List ℕ)) PathFault → Heard → Next
+open_next at view handle (Err why) heard = fails (errno_of_path why)
+open_next at view (Some handle) (Ok names) heard = fails Einval
+open_next at view None (Ok names) heard = along view (fails Eisdir) (at view.live (joined names)) names heard
 
 abbrev pub make_at : List ℕ → Entry → Next
 make_at key Nothing = Makes key
@@ -119,6 +143,7 @@ make_next view (Ok names) heard = along view (fails Eexist) (make_at (joined nam
 abbrev pub remove_at : LocalNames → List ℕ → Entry → Next
 remove_at names key RemoteDir = fails Enotempty
 remove_at names key LocalDir = if has_name_below names key then fails Enotempty else Removes key
+remove_at names key (LocalFile size) = fails Enotdir
 remove_at names key (File etag size) = fails Enotdir
 remove_at names key Nothing = fails Enoent
 
@@ -130,6 +155,7 @@ remove_next view (Ok names) heard = along view (fails Eperm) (remove_at view.nam
 abbrev pub unlink_at : Bool → List ℕ → Entry → Next
 unlink_at may_delete key RemoteDir = fails Eisdir
 unlink_at may_delete key LocalDir = fails Eisdir
+unlink_at may_delete key (LocalFile size) = fails Eperm
 unlink_at may_delete key (File etag size) = if may_delete then Asks (call.Delete key) else fails Eperm
 unlink_at may_delete key Nothing = fails Enoent
 
@@ -162,21 +188,66 @@ range_next version (Some range) (Missing ∷ answers) = fails Estale
 range_next version (Some range) (answer ∷ answers) = fails (errno_of answer)
 
 abbrev pub read_next : Option Handle → ℕ → ℕ → List Brief → Next
-read_next None offset count answers = fails Ebadf
-read_next (Some handle) offset count answers = range_next handle.version (range_in offset count handle.version.size) answers
+read_next (Some (Reading line version)) offset count answers = range_next version (range_in offset count version.size) answers
+read_next other offset count answers = fails Ebadf
 
-abbrev pub close_next : Option Handle → Next
-close_next None = fails Ebadf
-close_next (Some handle) = Replies reply.Success
+abbrev pub with_upload : Upload → Writer → Writer
+with_upload upload writer = record { line = writer.line; key = writer.key; upload = upload; waiter = writer.waiter }
+
+abbrev pub waited_for : Waiter → Upload → Writer → Writer
+waited_for who upload writer = record { line = writer.line; key = writer.key; upload = upload; waiter = who }
+
+-- a write has to begin at the end, and an upload has so many parts at most
+abbrev pub write_at : Writer → ℕ → List ℕ → Next
+write_at writer offset bytes =
+    if not (offset == written writer.upload) then fails Einval
+    else (if nat_lt (writer.upload.part * max_parts) (offset + length bytes) then fails Efbig
+    else Writes (length bytes) (with_upload (with_bytes bytes writer.upload) writer))
+
+-- a writer takes bytes until it is at its end, or has failed
+abbrev pub write_to : Writer → ℕ → List ℕ → Next
+write_to writer offset bytes = by_state writer.upload.state
+  where
+    by_state : UpState → Next
+    by_state state.Open = write_at writer offset bytes
+    by_state (state.Failed errno) = fails errno
+    by_state other = fails Einval
+
+abbrev pub write_next : Option Handle → ℕ → List ℕ → Next
+write_next (Some (Writing writer)) offset bytes = write_to writer offset bytes
+write_next other offset bytes = fails Ebadf
+
+-- no more bytes come
+abbrev pub ended : Upload → Upload
+ended upload = by_state upload.state
+  where
+    by_state : UpState → Upload
+    by_state state.Open = finished upload
+    by_state other = upload
+
+-- fsync and close wait for the writer's object, where it has none yet
+abbrev pub sync_next : ℕ → Option Handle → Next
+sync_next line None = fails Ebadf
+sync_next line (Some (Reading opened version)) = Replies reply.Success
+sync_next line (Some (Writing writer)) = Ends (waited_for (waiter.Sync line) (ended writer.upload) writer)
+
+abbrev pub close_next : ℕ → Option Handle → Next
+close_next line None = fails Ebadf
+close_next line (Some (Reading opened version)) = Replies reply.Success
+close_next line (Some (Writing writer)) = Ends (waited_for (waiter.Close line) (with_closing (ended writer.upload)) writer)
 
 -- what a line does next, by what it sees of the mount
 abbrev pub next_of : View → Request → Heard → Next
 next_of view (Put key content) heard = put_next key (bytes_of content) heard.answers
 next_of view Await heard = Waits
 next_of view (Stat path) heard = stat_next view (path_of path) heard
-next_of view (OpenRead name path) heard = open_next view view.handle (path_of path) heard
+next_of view (OpenRead name path) heard = open_next open_at view view.handle (path_of path) heard
+next_of view (OpenWrite name path) heard = open_next (create_at false) view view.handle (path_of path) heard
+next_of view (OpenTruncate name path) heard = open_next (create_at view.options.allow_overwrite) view view.handle (path_of path) heard
 next_of view (Read name offset count) heard = read_next view.handle offset count heard.answers
-next_of view (Close name) heard = close_next view.handle
+next_of view (Write name offset content) heard = write_next view.handle offset (bytes_of content)
+next_of view (Sync name) heard = sync_next view.line view.handle
+next_of view (Close name) heard = close_next view.line view.handle
 next_of view (Delete key) heard = delete_next key heard.answers
 next_of view (MakeDir path) heard = make_next view (path_of path) heard
 next_of view (RemoveDir path) heard = remove_next view (path_of path) heard

@@ -2,12 +2,21 @@
 use Rattle.std.specs.Prelude.{ℕ, Option, Some, None}
 use Rattle.std.specs.FinMap as table
 use Rattle.mp_types.specs.HandleName.{name_cmp}
-use Rattle.mount_model.specs.declared.handle.Handle.{Handle}
+use Rattle.upload_rules.specs.Upload.{Upload}
+use Rattle.mount_model.specs.declared.handle.Handle.{Handle as HandleOf}
+use Rattle.mount_model.specs.declared.handle.Handle.TheVariants.{Reading, Writing}
+use Rattle.mount_model.specs.declared.handle.Writer.{Writer as WriterOf}
 use Rattle.mount_model.specs.declared.request.Request.{Request}
-use Rattle.mount_model.specs.declared.request.Request.TheVariants.{Put, Await, Stat, OpenRead, Read, Close, Delete, MakeDir, RemoveDir, Unlink}
+use Rattle.mount_model.specs.declared.request.Request.TheVariants.{OpenRead, OpenWrite, OpenTruncate, Read, Write, Sync, Close}
 use Rattle.mount_model.specs.declared.request.Line.{Line}
 use Rattle.mount_model.specs.declared.event.Owner.{Owner}
 use Rattle.mount_model.specs.declared.event.Owner.TheVariants as owner
+
+abbrev pub Writer : Type 0
+Writer = WriterOf Upload
+
+abbrev pub Handle : Type 0
+Handle = HandleOf Upload
 
 -- the live handles, each under the process that opened it and the name that it gave
 abbrev pub Handles : Type 0
@@ -15,16 +24,14 @@ Handles = table.FinMap name_cmp Handle
 
 -- the name that a request gives for a handle of its process
 abbrev pub name_in : Request → Option ℕ
-name_in (Put key content) = None
-name_in Await = None
-name_in (Stat path) = None
 name_in (OpenRead name path) = Some name
+name_in (OpenWrite name path) = Some name
+name_in (OpenTruncate name path) = Some name
 name_in (Read name offset count) = Some name
+name_in (Write name offset content) = Some name
+name_in (Sync name) = Some name
 name_in (Close name) = Some name
-name_in (Delete key) = None
-name_in (MakeDir path) = None
-name_in (RemoveDir path) = None
-name_in (Unlink path) = None
+name_in other = None
 
 abbrev pub handle_named : ℕ → Option ℕ → Handles → Option Handle
 handle_named actor None handles = None
@@ -36,14 +43,5 @@ handle_of line handles = handle_named line.actor (name_in line.request) handles
 
 -- whose jobs a line asks for: a read asks for the stream of its handle, and any other line for itself
 abbrev pub owner_for : ℕ → Request → Option Handle → Owner
-owner_for number (Read name offset count) (Some handle) = owner.Stream handle.line
-owner_for number (Read name offset count) None = owner.Line number
-owner_for number (Put key content) handle = owner.Line number
-owner_for number Await handle = owner.Line number
-owner_for number (Stat path) handle = owner.Line number
-owner_for number (OpenRead name path) handle = owner.Line number
-owner_for number (Close name) handle = owner.Line number
-owner_for number (Delete key) handle = owner.Line number
-owner_for number (MakeDir path) handle = owner.Line number
-owner_for number (RemoveDir path) handle = owner.Line number
-owner_for number (Unlink path) handle = owner.Line number
+owner_for number (Read name offset count) (Some (Reading line version)) = owner.Stream line
+owner_for number other handle = owner.Line number

@@ -8,7 +8,7 @@ use Rattle.mp_rules.specs.Walk.{with_known}
 use Rattle.bucket_model.specs.declared.call.Call.{Call}
 use Rattle.bucket_model.specs.declared.call.Call.TheVariants as call
 use Rattle.bucket_model.specs.declared.answer.Brief.{Brief}
-use Rattle.bucket_model.specs.declared.answer.Brief.TheVariants.{Found, Missing, Yes, No, Bytes, Changed, Gone, Made, Fault, NoMemory}
+use Rattle.bucket_model.specs.declared.answer.Brief.TheVariants.{Found, Missing, Yes, No}
 use Rattle.mount_model.specs.declared.standing.Heard.{Heard}
 use Rattle.mount_model.specs.declared.standing.Told.{Told}
 use Rattle.mount_model.specs.declared.standing.Told.TheVariants.{Fact as AFact, Answer}
@@ -29,9 +29,7 @@ call_of (question.Probe key) = call.Probe key
 abbrev pub question_of : Call → Option Question
 question_of (call.Head key) = Some (question.Head key)
 question_of (call.Probe key) = Some (question.Probe key)
-question_of (call.Get key etag from to) = None
-question_of (call.Delete key) = None
-question_of (call.Put key bytes) = None
+question_of other = None
 
 -- the fact that an answer to a question tells; one that failed tells none
 abbrev pub fact_of : Brief → Option Fact
@@ -39,17 +37,11 @@ fact_of (Found etag size) = Some (fact.Found etag size)
 fact_of Missing = Some fact.Missing
 fact_of Yes = Some fact.Yes
 fact_of No = Some fact.No
-fact_of (Bytes count) = None
-fact_of Changed = None
-fact_of Gone = None
-fact_of (Made etag) = None
-fact_of Fault = None
-fact_of NoMemory = None
+fact_of other = None
 
 abbrev pub told_from : Option Question → Option Fact → Brief → Told
-told_from None tells answer = Answer answer
-told_from (Some asked) None answer = Answer answer
 told_from (Some asked) (Some tells) answer = AFact (record { question = asked; fact = tells })
+told_from asked tells answer = Answer answer
 
 -- what the answer to a call tells, by the question that the call asks
 abbrev pub told_by : Option Question → Brief → Told

@@ -9,3 +9,5 @@ pub mod ScriptText
 pub mod State
 pub mod Step
 pub mod Tied
+pub mod Writers
+pub mod Written

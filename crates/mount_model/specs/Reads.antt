@@ -4,7 +4,7 @@ use Rattle.std.specs.List.{AllByRecursion}
 use Rattle.mp_types.specs.declared.options.Opts.{Opts}
 use Rattle.bucket_model.specs.Along.{Along}
 use Rattle.bucket_model.specs.Bucket.{ObjectVersion, slice_at}
-use Rattle.mount_model.specs.declared.handle.Handle.{Handle}
+use Rattle.mount_model.specs.declared.handle.Handle.TheVariants.{Reading}
 use Rattle.mount_model.specs.declared.handle.Version.{Version}
 use Rattle.mount_model.specs.declared.request.Request.{Request}
 use Rattle.mount_model.specs.declared.request.Request.TheVariants as request
@@ -15,7 +15,7 @@ use Rattle.mount_model.specs.declared.event.Answered.{Answered}
 use Rattle.mount_model.specs.declared.standing.Standing.{Standing}
 use Rattle.mount_model.specs.Step.{Step}
 use Rattle.mount_model.specs.Conversation.{Range, range_in}
-use Rattle.mount_model.specs.Handles.{Handles, handle_of}
+use Rattle.mount_model.specs.Handles.{Handle, Handles, handle_of}
 use Rattle.mount_model.specs.State.{ClientState, opening, after, line_at}
 
 -- the bytes of this range of this version; no range has no bytes
@@ -25,21 +25,13 @@ IsRangeOf versions version (Some range) bytes = slice_at versions version.key ve
 
 -- what a read of a handle gives: the part of the version that stands in the range that it asks for
 abbrev pub IsReadOf : List ObjectVersion → Option Handle → ℕ → ℕ → List ℕ → Type 0
-IsReadOf versions None offset count bytes = ⊥
-IsReadOf versions (Some handle) offset count bytes = IsRangeOf versions handle.version (range_in offset count handle.version.size) bytes
+IsReadOf versions (Some (Reading line version)) offset count bytes = IsRangeOf versions version (range_in offset count version.size) bytes
+IsReadOf versions other offset count bytes = ⊥
 
 -- data answer a read, and nothing else
 abbrev pub IsDataFor : List ObjectVersion → Request → Option Handle → List ℕ → Type 0
 IsDataFor versions (request.Read name offset count) handle bytes = IsReadOf versions handle offset count bytes
-IsDataFor versions (request.Put key content) handle bytes = ⊥
-IsDataFor versions request.Await handle bytes = ⊥
-IsDataFor versions (request.Stat path) handle bytes = ⊥
-IsDataFor versions (request.OpenRead name path) handle bytes = ⊥
-IsDataFor versions (request.Close name) handle bytes = ⊥
-IsDataFor versions (request.Delete key) handle bytes = ⊥
-IsDataFor versions (request.MakeDir path) handle bytes = ⊥
-IsDataFor versions (request.RemoveDir path) handle bytes = ⊥
-IsDataFor versions (request.Unlink path) handle bytes = ⊥
+IsDataFor versions other handle bytes = ⊥
 
 abbrev pub IsDataAt : List ObjectVersion → Handles → Option Standing → List ℕ → Type 0
 IsDataAt versions handles None bytes = ⊥
@@ -51,13 +43,7 @@ IsReadReply versions state answered = by_reply answered.reply
   where
     by_reply : Reply → Type 0
     by_reply (reply.Data bytes) = IsDataAt versions state.shared.handles (line_at answered.line state.lines) bytes
-    by_reply (reply.Made etag) = Unit {0}
-    by_reply reply.Success = Unit {0}
-    by_reply reply.Directory = Unit {0}
-    by_reply (reply.File size) = Unit {0}
-    by_reply (reply.Open size) = Unit {0}
-    by_reply reply.Gone = Unit {0}
-    by_reply (reply.Failed errno) = Unit {0}
+    by_reply other = Unit {0}
 
 -- the data that replies give are these bytes
 abbrev pub GivesOnly : List ℕ → Answered → Type 0
@@ -65,13 +51,7 @@ GivesOnly bytes answered = by_reply answered.reply
   where
     by_reply : Reply → Type 0
     by_reply (reply.Data given) = given ≡ bytes
-    by_reply (reply.Made etag) = Unit {0}
-    by_reply reply.Success = Unit {0}
-    by_reply reply.Directory = Unit {0}
-    by_reply (reply.File size) = Unit {0}
-    by_reply (reply.Open size) = Unit {0}
-    by_reply reply.Gone = Unit {0}
-    by_reply (reply.Failed errno) = Unit {0}
+    by_reply other = Unit {0}
 
 -- each read in these steps gives bytes of the version that its handle opened
 abbrev pub AreReads : List ObjectVersion → Opts → List Line → List Step → Type 0

@@ -42,6 +42,9 @@ answer_text (answer.Bytes count) = codes "bytes " ++ decimal count
 answer_text answer.Changed = codes "changed"
 answer_text answer.Gone = codes "gone"
 answer_text (answer.Made etag) = codes "made " ++ etag
+answer_text (answer.Upload upload) = codes "upload " ++ decimal upload
+answer_text answer.Stored = codes "stored"
+answer_text answer.NoUpload = codes "noupload"
 answer_text answer.Fault = codes "fault"
 answer_text answer.NoMemory = codes "nomemory"
 
@@ -56,6 +59,7 @@ drop_text job = codes "X " ++ (decimal job ++ codes "\n")
 abbrev pub owner_text : Owner → List ℕ
 owner_text (owner.Line number) = codes "L" ++ decimal number
 owner_text (owner.Stream number) = codes "S" ++ decimal number
+owner_text (owner.Writer number) = codes "W" ++ decimal number
 
 abbrev pub call_text : AskedCall → List ℕ
 call_text (asked.Head key) = codes "head " ++ escaped key
@@ -63,6 +67,10 @@ call_text (asked.Probe key) = codes "probe " ++ escaped key
 call_text (asked.Get key etag from to) = codes "get " ++ (escaped key ++ (codes " " ++ (etag ++ (codes " " ++ (decimal from ++ (codes " " ++ decimal to))))))
 call_text (asked.Delete key) = codes "delete " ++ escaped key
 call_text (asked.Put key size) = codes "put " ++ (escaped key ++ (codes " " ++ decimal size))
+call_text (asked.Create key) = codes "create " ++ escaped key
+call_text (asked.Part upload number from to) = codes "part " ++ (decimal upload ++ (codes " " ++ (decimal number ++ (codes " " ++ (decimal from ++ (codes " " ++ decimal to))))))
+call_text (asked.Complete upload parts) = codes "complete " ++ (decimal upload ++ (codes " " ++ decimal parts))
+call_text (asked.Abort upload) = codes "abort " ++ decimal upload
 
 abbrev pub ask_text : Ask → List ℕ
 ask_text ask = codes "A " ++ (decimal ask.job ++ (codes " " ++ (owner_text ask.owner ++ (codes " " ++ (call_text ask.call ++ codes "\n")))))
@@ -89,7 +97,9 @@ said_text (reply.Made etag) = codes "made " ++ etag
 said_text reply.Success = codes "ok"
 said_text reply.Directory = codes "dir"
 said_text (reply.File size) = codes "file " ++ decimal size
+said_text (reply.Writing size) = codes "writing " ++ decimal size
 said_text (reply.Open size) = codes "open " ++ decimal size
+said_text (reply.Wrote length) = codes "wrote " ++ decimal length
 said_text (reply.Data bytes) = codes "data x" ++ encode_lower bytes
 said_text reply.Gone = codes "gone"
 said_text (reply.Failed errno) = codes "err " ++ errno_text errno

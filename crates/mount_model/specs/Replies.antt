@@ -17,6 +17,5 @@ reply_to line steps = option_map (λ a. a.reply) (find (λ a. a.line == line) (r
 
 -- the replies that one item of a record gives
 abbrev pub replies_in : Item → List Answered
-replies_in (item.Event event) = []
-replies_in (item.Ask ask) = []
 replies_in (item.Reply reply) = reply ∷ []
+replies_in other = []

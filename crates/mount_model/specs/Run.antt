@@ -8,6 +8,8 @@ use Rattle.bucket_model.specs.declared.call.Call.TheVariants as call
 use Rattle.bucket_model.specs.declared.answer.Brief.{Brief}
 use Rattle.bucket_model.specs.Along.{Along}
 use Rattle.bucket_model.specs.Answers.{fits, is_counted}
+use Rattle.upload_rules.specs.declared.upload.UpAsk.TheVariants.{Abort}
+use Rattle.upload_rules.specs.Upload.{due}
 use Rattle.mount_model.specs.declared.request.Request.{Request}
 use Rattle.mount_model.specs.declared.request.Request.TheVariants as request
 use Rattle.mount_model.specs.declared.request.Reply.{Reply}
@@ -25,9 +27,10 @@ use Rattle.mount_model.specs.declared.standing.Phase.{Phase}
 use Rattle.mount_model.specs.declared.standing.Phase.TheVariants.{Waiting, Begun, Replied}
 use Rattle.mount_model.specs.declared.standing.Standing.{Standing}
 use Rattle.mount_model.specs.Step.{Step}
-use Rattle.mount_model.specs.State.{Shared, ClientState, Job, JobPhase, Ready, Out, Gone, opening, after, state_after, line_at, job_at, lines_at, line_of, next_at, with_replies}
-use Rattle.mount_model.specs.Conversation.{Next, Asks, Replies, Makes, Removes, Opens, Gives, Waits}
-use Rattle.mount_model.specs.Handles.{handle_of, owner_for}
+use Rattle.mount_model.specs.Handles.{Writer}
+use Rattle.mount_model.specs.Writers.{Asking, answer_to, first_asks, has_failed}
+use Rattle.mount_model.specs.Conversation.{Next, Asks, Replies, Makes, Removes, Opens, Creates, Gives, Writes, Ends, Waits}
+use Rattle.mount_model.specs.State.{ClientState, Job, JobPhase, Ready, Out, Gone, Turn, TurnOf, TurnOfWriter, NoTurn, opening, after, state_after, job_at, jobs_at, lines_at, with_replies, ready_for, turn_at, calls_in, gives_up, behind_asks, behind_drops, behind_step, askings_of, calls_of, jobs_made}
 
 -- which lines may begin
 
@@ -55,8 +58,7 @@ ready (job ∷ jobs) = by_phase job.phase (ready jobs)
   where
     by_phase : JobPhase → List ℕ → List ℕ
     by_phase Ready more = job.number ∷ more
-    by_phase (Out from) more = more
-    by_phase Gone more = more
+    by_phase other more = more
 
 -- which events may come
 
@@ -78,57 +80,70 @@ MayCome state (Done job position answer) = MayDone state job position answer
 
 -- what the line whose turn it is does
 
--- a call as the record tells it
+-- a line's own call as the record tells it
 abbrev pub asked_of : Call → AskedCall
 asked_of (call.Head key) = asked.Head key
 asked_of (call.Probe key) = asked.Probe key
 asked_of (call.Get key etag from to) = asked.Get key etag from to
 asked_of (call.Delete key) = asked.Delete key
 asked_of (call.Put key bytes) = asked.Put key (length bytes)
+asked_of (call.Create key) = asked.Create key
+asked_of (call.Part upload number bytes) = asked.Part upload number 0 (length bytes)
+asked_of (call.Complete upload parts) = asked.Complete upload parts
+asked_of (call.Abort upload) = asked.Abort upload
 
--- a step is the turn of one line, with the owner of what it asks for, or of none
-pub data Turn : Type 0 where
-  TurnOf : ℕ → Owner → Next → Turn
-  NoTurn : Turn
+abbrev pub AsksFor : ℕ → Owner → Call → Step → List Answered → Type 0
+AsksFor job owner called step own = (step.asks ≡ record { job = job; owner = owner; call = asked_of called } ∷ []) × (own ≡ []) × (step.drops ≡ [])
 
-abbrev pub owner_at : Shared → ℕ → List Standing → Owner
-owner_at shared number lines = by_line (line_at number lines)
-  where
-    by_line : Option Standing → Owner
-    by_line None = owner.Line number
-    by_line (Some s) = owner_for number s.line.request (handle_of s.line shared.handles)
+abbrev pub Says : ℕ → Reply → Step → List Answered → Type 0
+Says line said step own = (step.asks ≡ []) × (own ≡ record { line = line; reply = said } ∷ []) × (step.drops ≡ [])
 
-abbrev pub turn_of : Shared → Option ℕ → List Standing → Turn
-turn_of shared None lines = NoTurn
-turn_of shared (Some number) lines = TurnOf number (owner_at shared number lines) (next_at shared number lines)
-
--- the line that begins, or the one whose job has its answer, with what it does behind the event
-abbrev pub turn_at : ClientState → Event → Turn
-turn_at state event = turn_of state.shared (line_of state.jobs event) (lines_at state.lines state.jobs event)
-
-abbrev pub AsksFor : ℕ → Owner → Call → List Ask → List Answered → Type 0
-AsksFor job owner called asks own = (asks ≡ record { job = job; owner = owner; call = asked_of called } ∷ []) × (own ≡ [])
-
-abbrev pub Says : ℕ → Reply → List Ask → List Answered → Type 0
-Says line said asks own = (asks ≡ []) × (own ≡ record { line = line; reply = said } ∷ [])
-
--- where a call is due, or a handle or a directory, and there is no memory for it, the line is answered so
-abbrev pub LacksMemory : ℕ → List Ask → List Answered → Type 0
-LacksMemory line asks own = Says line (reply.Failed Enomem) asks own
+-- where a call is due, or a handle or a directory, or room for what is written, and there is no memory for it, the line is answered so
+abbrev pub LacksMemory : ℕ → Step → List Answered → Type 0
+LacksMemory line step own = Says line (reply.Failed Enomem) step own
 
 -- so many bytes; which ones is not said here, but by what the read's handle opened
-abbrev pub SaysData : ℕ → ℕ → List Ask → List Answered → Type 0
-SaysData line count asks own = (bytes : List ℕ) × (length bytes ≡ count) × Says line (reply.Data bytes) asks own
+abbrev pub SaysData : ℕ → ℕ → Step → List Answered → Type 0
+SaysData line count step own = (bytes : List ℕ) × (length bytes ≡ count) × Says line (reply.Data bytes) step own
 
-abbrev pub TakesTurn : ℕ → Turn → List Ask → List Answered → Type 0
-TakesTurn job (TurnOf line owner (Asks called)) asks own = AsksFor job owner called asks own ⊎ LacksMemory line asks own
-TakesTurn job (TurnOf line owner (Replies said)) asks own = Says line said asks own
-TakesTurn job (TurnOf line owner (Makes key)) asks own = Says line reply.Success asks own ⊎ LacksMemory line asks own
-TakesTurn job (TurnOf line owner (Removes key)) asks own = Says line reply.Success asks own
-TakesTurn job (TurnOf line owner (Opens version)) asks own = Says line (reply.Open version.size) asks own ⊎ LacksMemory line asks own
-TakesTurn job (TurnOf line owner (Gives count)) asks own = SaysData line count asks own
-TakesTurn job (TurnOf line owner Waits) asks own = (asks ≡ []) × (own ≡ [])
-TakesTurn job NoTurn asks own = (asks ≡ []) × (own ≡ [])
+abbrev pub IsIdle : Step → List Answered → Type 0
+IsIdle step own = (step.asks ≡ []) × (own ≡ []) × (step.drops ≡ [])
+
+-- asks that are numbered from this job on
+abbrev pub numbered : ℕ → Owner → List Asking → List Ask
+numbered job owner [] = []
+numbered job owner (asking ∷ askings) = record { job = job; owner = owner; call = asking.told } ∷ numbered (job + 1) owner askings
+
+-- the jobs that a step asks for, but for an abort
+abbrev pub jobs_called : Step → Writer → List Job
+jobs_called step writer = jobs_made writer.line step.asks (calls_of (first_asks (calls_in step.asks) writer.key writer.upload))
+
+-- A writer asks for the first of what is due, or all. Where it has failed, its ready jobs are dropped, also those that it has
+-- just asked for. An abort is asked for only where it is due. Who waits is answered, where the answer can be told.
+pub record TakesTurnOfWriter (state : ClientState) (step : Step) (writer : Writer) (own : List Answered) : Type 0 where
+  pub asks : step.asks ≡ numbered (length state.jobs + 1) (owner.Writer writer.line) (askings_of step writer)
+  pub drops : step.drops ≡ (if has_failed (behind_asks (calls_in step.asks) writer.upload) then ready_for writer.line (jobs_at state.jobs step.event ++ jobs_called step writer) else [])
+  pub gives_up : gives_up step.asks ≡ true → due (behind_drops (calls_in step.asks) (length step.drops) writer.upload) ≡ Some Abort
+  pub answers : own ≡ answer_to writer.waiter (behind_step step writer.upload)
+
+abbrev pub TakesTurnOfLine : ClientState → Step → Line → Owner → Next → List Answered → Type 0
+TakesTurnOfLine state step line owner (Asks called) own = AsksFor (length state.jobs + 1) owner called step own ⊎ LacksMemory line.number step own
+TakesTurnOfLine state step line owner (Replies said) own = Says line.number said step own
+TakesTurnOfLine state step line owner (Makes key) own = Says line.number reply.Success step own ⊎ LacksMemory line.number step own
+TakesTurnOfLine state step line owner (Removes key) own = Says line.number reply.Success step own
+TakesTurnOfLine state step line owner (Opens version) own = Says line.number (reply.Open version.size) step own ⊎ LacksMemory line.number step own
+TakesTurnOfLine state step line owner (Creates key) own = Says line.number (reply.Open 0) step own ⊎ LacksMemory line.number step own
+TakesTurnOfLine state step line owner (Gives count) own = SaysData line.number count step own
+TakesTurnOfLine state step line owner (Writes count writer) own =
+    ((answers : List Answered) × TakesTurnOfWriter state step writer answers × (own ≡ record { line = line.number; reply = reply.Wrote count } ∷ answers))
+    ⊎ LacksMemory line.number step own
+TakesTurnOfLine state step line owner (Ends writer) own = TakesTurnOfWriter state step writer own
+TakesTurnOfLine state step line owner Waits own = IsIdle step own
+
+abbrev pub TakesTurn : ClientState → Step → Turn → List Answered → Type 0
+TakesTurn state step (TurnOf line owner next) own = TakesTurnOfLine state step line owner next own
+TakesTurn state step (TurnOfWriter name writer) own = TakesTurnOfWriter state step writer own
+TakesTurn state step NoTurn own = IsIdle step own
 
 -- An await is answered once all lines above it have their replies: the first line without a reply, where it is
 -- an await that has begun, is answered, and then the next.
@@ -141,25 +156,16 @@ due_awaits (s ∷ lines) = by_phase s.phase (due_awaits lines)
     by_phase (Begun heard) more = by_request s.line.request
       where
         by_request : Request → List Answered
-        by_request (request.Put key content) = []
         by_request request.Await = record { line = s.line.number; reply = reply.Success } ∷ more
-        by_request (request.Stat path) = []
-        by_request (request.OpenRead name path) = []
-        by_request (request.Read name offset count) = []
-        by_request (request.Close name) = []
-        by_request (request.Delete key) = []
-        by_request (request.MakeDir path) = []
-        by_request (request.RemoveDir path) = []
-        by_request (request.Unlink path) = []
+        by_request other = []
     by_phase Replied more = more
 
--- The step may come in this state: its event may, and its asks and replies are those of the line whose turn it is,
--- and the replies to the awaits that are due behind it.
+-- The step may come in this state: its event may, and its drops, asks and replies are those of the line or the writer whose
+-- turn it is, and the replies to the awaits that are due behind it.
 pub record IsLegalStep (state : ClientState) (step : Step) : Type 0 where
   pub may_come : MayCome state step.event
-  pub drops : step.drops ≡ []
   pub own : List Answered
-  pub turn : TakesTurn (length state.jobs + 1) (turn_at state step.event) step.asks own
+  pub turn : TakesTurn state step (turn_at state step.event) own
   pub replies : step.replies ≡ own ++ due_awaits (with_replies (lines_at state.lines state.jobs step.event) own)
 
 -- each step is legal where it stands

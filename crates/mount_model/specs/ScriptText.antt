@@ -13,7 +13,7 @@ use Rattle.mount_model.specs.declared.fault.ScriptCause.TheVariants as cause
 use Rattle.mount_model.specs.declared.fault.What.{What}
 use Rattle.mount_model.specs.declared.fault.What.TheVariants.{Lines, Reads, Data as Stored}
 use Rattle.mount_model.specs.declared.request.Request.{Request}
-use Rattle.mount_model.specs.declared.request.Request.TheVariants.{Put, Await, Stat, OpenRead, Read, Close, Delete, MakeDir, RemoveDir, Unlink}
+use Rattle.mount_model.specs.declared.request.Request.TheVariants.{Put, Await, Stat, OpenRead, OpenWrite, OpenTruncate, Read, Write, Sync, Close, Delete, MakeDir, RemoveDir, Unlink}
 use Rattle.mount_model.specs.declared.request.Line.{Line}
 use Rattle.mount_model.specs.RecordText.{is_plain}
 
@@ -147,12 +147,13 @@ put_of (key ∷ content ∷ []) = do
   Ok (Put k c)
 put_of words = Err cause.Words
 
-abbrev pub open_of : List (List ℕ) → Result Request ScriptCause
-open_of (handle ∷ path ∷ []) = do
+-- the three kinds of open have the same words
+abbrev pub open_of : (ℕ → List ℕ → Request) → List (List ℕ) → Result Request ScriptCause
+open_of opens (handle ∷ path ∷ []) = do
   h ← handle_word handle
   p ← text_of path
-  Ok (OpenRead h p)
-open_of words = Err cause.Words
+  Ok (opens h p)
+open_of opens words = Err cause.Words
 
 abbrev pub read_of : List (List ℕ) → Result Request ScriptCause
 read_of (handle ∷ offset ∷ count ∷ []) = do
@@ -162,11 +163,20 @@ read_of (handle ∷ offset ∷ count ∷ []) = do
   Ok (Read h o c)
 read_of words = Err cause.Words
 
-abbrev pub close_of : List (List ℕ) → Result Request ScriptCause
-close_of (handle ∷ []) = do
+abbrev pub write_of : List (List ℕ) → Result Request ScriptCause
+write_of (handle ∷ offset ∷ content ∷ []) = do
   h ← handle_word handle
-  Ok (Close h)
-close_of words = Err cause.Words
+  o ← number_word offset
+  c ← content_of content
+  Ok (Write h o c)
+write_of words = Err cause.Words
+
+-- a request that names a handle alone
+abbrev pub handle_only : (ℕ → Request) → List (List ℕ) → Result Request ScriptCause
+handle_only asks (handle ∷ []) = do
+  h ← handle_word handle
+  Ok (asks h)
+handle_only asks words = Err cause.Words
 
 abbrev pub delete_of : List (List ℕ) → Result Request ScriptCause
 delete_of (key ∷ []) = do
@@ -216,12 +226,16 @@ change_of verb words =
 abbrev pub asked_by_process : List ℕ → List (List ℕ) → Result Request ScriptCause
 asked_by_process verb words =
     if is_word verb (codes "stat") then stat_of words
-    else (if is_word verb (codes "openr") then open_of words
+    else (if is_word verb (codes "openr") then open_of OpenRead words
+    else (if is_word verb (codes "openw") then open_of OpenWrite words
+    else (if is_word verb (codes "opent") then open_of OpenTruncate words
     else (if is_word verb (codes "read") then read_of words
-    else (if is_word verb (codes "close") then close_of words
+    else (if is_word verb (codes "write") then write_of words
+    else (if is_word verb (codes "fsync") then handle_only Sync words
+    else (if is_word verb (codes "close") then handle_only Close words
     else (if is_word verb (codes "mkdir") then make_of words
     else (if is_word verb (codes "rmdir") then remove_of words
-    else (if is_word verb (codes "unlink") then unlink_of words else Err cause.Verb))))))
+    else (if is_word verb (codes "unlink") then unlink_of words else Err cause.Verb))))))))))
 
 -- processes ask, the others change the bucket, and all may wait
 abbrev pub request_of : ℕ → List ℕ → List (List ℕ) → Result Request ScriptCause
@@ -268,15 +282,7 @@ script_from number (line ∷ lines) = if is_passed line then script_from (number
 -- how many bytes a request asks to read
 abbrev pub count_in : Request → ℕ
 count_in (Read name offset count) = count
-count_in (Put key content) = 0
-count_in Await = 0
-count_in (Stat path) = 0
-count_in (OpenRead name path) = 0
-count_in (Close name) = 0
-count_in (Delete key) = 0
-count_in (MakeDir path) = 0
-count_in (RemoveDir path) = 0
-count_in (Unlink path) = 0
+count_in other = 0
 
 abbrev pub bytes_asked : List Line → ℕ
 bytes_asked [] = 0
@@ -285,15 +291,8 @@ bytes_asked (line ∷ lines) = count_in line.request + bytes_asked lines
 -- how many bytes a request gives to be stored
 abbrev pub given_in : Request → ℕ
 given_in (Put key content) = length (bytes_of content)
-given_in (Read name offset count) = 0
-given_in Await = 0
-given_in (Stat path) = 0
-given_in (OpenRead name path) = 0
-given_in (Close name) = 0
-given_in (Delete key) = 0
-given_in (MakeDir path) = 0
-given_in (RemoveDir path) = 0
-given_in (Unlink path) = 0
+given_in (Write name offset content) = length (bytes_of content)
+given_in other = 0
 
 abbrev pub bytes_given : List Line → ℕ
 bytes_given [] = 0

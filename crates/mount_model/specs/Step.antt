@@ -18,6 +18,9 @@ pub record Step : Type 0 where
 abbrev pub step_of : Event → Step
 step_of event = record { event = event; drops = []; asks = []; replies = [] }
 
+abbrev pub with_drop : ℕ → Step → Step
+with_drop job step = record { event = step.event; drops = step.drops ++ job ∷ []; asks = step.asks; replies = step.replies }
+
 abbrev pub with_ask : Ask → Step → Step
 with_ask ask step = record { event = step.event; drops = step.drops; asks = step.asks ++ ask ∷ []; replies = step.replies }
 
@@ -32,6 +35,7 @@ change_last f (x ∷ y ∷ xs) = x ∷ change_last f (y ∷ xs)
 
 abbrev pub with_item : List Step → Item → List Step
 with_item steps (item.Event event) = steps ++ step_of event ∷ []
+with_item steps (item.Drop job) = change_last (with_drop job) steps
 with_item steps (item.Ask ask) = change_last (with_ask ask) steps
 with_item steps (item.Reply reply) = change_last (with_reply reply) steps
 
@@ -45,24 +49,17 @@ pub record Written : Type 0 where
   pub steps : List Step
   pub room : ℕ
 
--- the last step has no reply yet, so that it may still ask
-pub record MayAsk (steps : List Step) : Type 0 where
-  pub before : List Step
-  pub last : Step
-  pub are : steps ≡ before ++ last ∷ []
-  pub unanswered : last.replies ≡ []
-
 -- there is a step
 pub record HasStep (steps : List Step) : Type 0 where
   pub before : List Step
   pub last : Step
   pub are : steps ≡ before ++ last ∷ []
 
--- a step asks first and replies then, so that the row is in the order in which it is written
+-- all but an event goes into a step
 abbrev pub MayFollow : List Step → Item → Type 0
 MayFollow steps (item.Event event) = Unit {0}
-MayFollow steps (item.Ask ask) = MayAsk steps
-MayFollow steps (item.Reply reply) = HasStep steps
+MayFollow steps other = HasStep steps
 
-abbrev pub IsInOrder : List Item → Type 0
-IsInOrder items = Along MayFollow with_item [] items
+-- a row begins with an event
+abbrev pub IsRow : List Item → Type 0
+IsRow items = Along MayFollow with_item [] items

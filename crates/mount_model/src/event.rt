@@ -31,6 +31,8 @@ pub enum Owner {
     Line(u32),
     /// The stream of the handle that the line of this number opened.
     Stream(u32),
+    /// The writer of the handle that the line of this number opened.
+    Writer(u32),
 }
 
 /// A bucket call as the record tells it, with the length of what is put in place of the bytes.
@@ -54,6 +56,23 @@ pub enum AskedCall {
     Put {
         key: Key,
         length: u64,
+    },
+    Create {
+        key: Key,
+    },
+    /// A part of the bytes that were written, from `from` to before `to`.
+    Part {
+        upload: u64,
+        number: u32,
+        from: u64,
+        to: u64,
+    },
+    Complete {
+        upload: u64,
+        parts: u32,
+    },
+    Abort {
+        upload: u64,
     },
 }
 

@@ -11,7 +11,7 @@ mod standing;
 
 pub use event::{Answered, Ask, AskedCall, Event, Owner};
 pub use fault::{ScriptCause, What};
-pub use handle::{Handle, Version};
+pub use handle::{Handle, Version, Waiter, Writer};
 pub use record::{Item, Record};
 pub use request::{Line, Reply, Request, Script};
 pub use standing::{Heard, Phase, Standing, Told, question_of, told_by};

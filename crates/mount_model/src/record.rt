@@ -1,6 +1,6 @@
-ghost use Rattle.std.specs.Prelude.{◌≡◌, ◌+◌, ◌<◌, ◌≤◌, List, [], ◌∷◌, ◌++◌, true, OnOk, OnErr};
+ghost use Rattle.std.specs.Prelude.{◌≡◌, ◌+◌, ◌<◌, ◌≤◌, List, [], ◌∷◌, ◌++◌, OnOk};
 ghost use Rattle.mount_model.specs.declared.record.Item.TheVariants as item;
-ghost use Rattle.mount_model.specs.Step.{step_of, steps_of, with_ask, with_reply, change_last, MayAsk, HasStep, IsInOrder};
+ghost use Rattle.mount_model.specs.Step.{step_of, steps_of, with_drop, with_ask, with_reply, change_last, HasStep, IsRow};
 
 use crate::{Answered, Ask, Event};
 use std::alloc::{AllocError, Global};
@@ -11,6 +11,8 @@ use std::marker::Model;
 pub enum Item {
     /// A step begins.
     Event(Event),
+    /// The step drops a job that is ready.
+    Drop(u64),
     /// The step asks for a job.
     Ask(Ask),
     /// The step gives a reply.
@@ -24,14 +26,14 @@ pub struct Record {
 }
 
 impl Model for Record {
-    ghost use Rattle.std.specs.Prelude.{◌≡◌, ◌-◌, true, vec_len, vec_capacity};
-    ghost use Rattle.mount_model.specs.Step.{Written, steps_of, IsInOrder};
+    ghost use Rattle.std.specs.Prelude.{◌-◌, vec_len, vec_capacity};
+    ghost use Rattle.mount_model.specs.Step.{Written, steps_of, IsRow};
 
     ghost Value = { Written };
 
     ghost view = { λ a. record { items = a.items.items; steps = steps_of a.items.items; room = vec_capacity a.items - vec_len a.items } };
 
-    ghost invariant = { λ a. IsInOrder a.items.items };
+    ghost invariant = { λ a. IsRow a.items.items };
 }
 
 impl Record {
@@ -65,10 +67,21 @@ impl Record {
         self.items.push_reserved(Item::Event(event));
     }
 
-    /// Adds a job to the last step, which has no reply yet.
+    /// Adds a job that is dropped to the last step.
+    pub fn drop_job(&mut self, job: u64)
+        requires room { 0 < self.old.room }
+        requires may { HasStep self.old.steps }
+        ensures steps { self.new.steps ≡ change_last (with_drop job) self.old.steps }
+        ensures items { self.new.items ≡ self.old.items ++ item.Drop job ∷ [] }
+        ensures room { self.new.room + 1 ≡ self.old.room }
+    {
+        self.items.push_reserved(Item::Drop(job));
+    }
+
+    /// Adds a job to the last step.
     pub fn ask(&mut self, ask: Ask)
         requires room { 0 < self.old.room }
-        requires may { MayAsk self.old.steps }
+        requires may { HasStep self.old.steps }
         ensures steps { self.new.steps ≡ change_last (with_ask ask) self.old.steps }
         ensures items { self.new.items ≡ self.old.items ++ item.Ask ask ∷ [] }
         ensures room { self.new.room + 1 ≡ self.old.room }
@@ -87,11 +100,11 @@ impl Record {
         self.items.push_reserved(Item::Reply(reply));
     }
 
-    /// The items in the order in which they are written.
+    /// The items in the order in which they came.
     pub fn items(&self) -> &[Item]
         ensures items { result.now ≡ self.now.items }
         ensures steps { steps_of result.now ≡ self.now.steps }
-        ensures order { IsInOrder result.now }
+        ensures row { IsRow result.now }
     {
         self.items.as_slice()
     }

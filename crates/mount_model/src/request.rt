@@ -20,13 +20,33 @@ pub enum Request {
         handle: u16,
         path: Text,
     },
+    /// Opens a new file at a path for writing, where nothing stands.
+    OpenWrite {
+        handle: u16,
+        path: Text,
+    },
+    /// Opens a new file at a path for writing, in the place of an object too, where the options allow it.
+    OpenTruncate {
+        handle: u16,
+        path: Text,
+    },
     /// Reads at most `count` bytes from place `offset` on.
     Read {
         handle: u16,
         offset: u64,
         count: u64,
     },
-    /// Gives a handle up.
+    /// Writes bytes at place `offset`, which has to be the end.
+    Write {
+        handle: u16,
+        offset: u64,
+        content: Data,
+    },
+    /// Waits until what was written is an object.
+    Sync {
+        handle: u16,
+    },
+    /// Gives a handle up. What was written is an object from then on.
     Close {
         handle: u16,
     },
@@ -59,8 +79,12 @@ pub enum Reply {
     Directory,
     /// A file of this many bytes stands there.
     File { size: u64 },
-    /// A handle on an object of this many bytes.
+    /// A file that is being written stands there, with so many bytes so far.
+    Writing { size: u64 },
+    /// A handle on a file of this many bytes.
     Open { size: u64 },
+    /// So many bytes were written.
+    Wrote { length: u64 },
     /// The bytes that were read.
     Data(Bytes),
     /// No object stands at the key any more.

@@ -83,6 +83,9 @@ fn fact_of(answer: &Brief) -> Option<Fact>
         | Brief::Changed
         | Brief::Gone
         | Brief::Made(_)
+        | Brief::Upload(_)
+        | Brief::Stored
+        | Brief::NoUpload
         | Brief::Fault
         | Brief::NoMemory => None,
     }
@@ -108,6 +111,12 @@ pub fn question_of(alloc: Global, call: &Call) -> Result<Option<Question>, Alloc
     match call {
         Call::Head { key } => Ok(Some(Question::Head(key.copy(alloc)?))),
         Call::Probe { key } => Ok(Some(Question::Probe(key.copy(alloc)?))),
-        Call::Get { .. } | Call::Delete { .. } | Call::Put { .. } => Ok(None),
+        Call::Get { .. }
+        | Call::Delete { .. }
+        | Call::Put { .. }
+        | Call::Create { .. }
+        | Call::Part { .. }
+        | Call::Complete { .. }
+        | Call::Abort { .. } => Ok(None),
     }
 }

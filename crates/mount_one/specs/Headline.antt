@@ -10,7 +10,7 @@ use Rattle.mount_model.specs.Run.{IsRun}
 use Rattle.mount_model.specs.RecordText.{record_text}
 use Rattle.mount_model.specs.ScriptText.{Refusal, Bad, script_of, max_script_bytes}
 use Rattle.mount_model.specs.ScriptText as text
-use Rattle.mp_driver.specs.Drive.{IsTiedTo, ReadsOver, HasFewFaults}
+use Rattle.mp_driver.specs.Drive.{IsTiedTo, ReadsOver, WrittenOver, HasFewFaults}
 use Rattle.mp_record.specs.Appends.{Appends, AppendsFront}
 use Rattle.mount_one.specs.Reading.{IsSpent}
 use Rattle.mount_one.specs.declared.status.Status.{Status}
@@ -40,25 +40,27 @@ IsTooLong (Some bytes) Data = SpellsNone (Some bytes) (text.TooLong Data)
 
 -- The steps are a run of the script that the input spells, with the options that a mount has by default, tied call
 -- by call to the store's history from its opening length on. Each read gives bytes of the version that its handle
--- opened, and at most as many calls are told to have failed as the store's count of faults rose by.
-pub record Serves (input : Option (List ℕ)) (start : ℕ) (is_alone : Type 0) (history : Option History) (faults_before faults_after : ℕ) (steps : List Step) : Type 0 where
+-- opened. Over an honest store what was written appears whole or not at all, and is there once its close or fsync has
+-- succeeded. At most as many calls are told to have failed as the store's count of faults rose by.
+pub record Serves (input : Option (List ℕ)) (start : ℕ) (is_alone is_honest : Type 0) (history : Option History) (faults_before faults_after : ℕ) (steps : List Step) : Type 0 where
   pub script : List Line
   pub spelled : Spells input script
   pub run : IsRun default_options script steps
   pub tied : IsTiedTo history default_options script start is_alone steps
   pub reads : ReadsOver history default_options script steps
+  pub written : is_honest → WrittenOver history default_options script start steps
   pub faults : HasFewFaults faults_before faults_after steps
 
 -- What the sink holds is what it held, and then the text of the record of such a run.
-pub record WritesRecord (input : Option (List ℕ)) (start : ℕ) (is_alone : Type 0) (history : Option History) (faults_before faults_after : ℕ) (held held_after : Option (List ℕ)) : Type 0 where
+pub record WritesRecord (input : Option (List ℕ)) (start : ℕ) (is_alone is_honest : Type 0) (history : Option History) (faults_before faults_after : ℕ) (held held_after : Option (List ℕ)) : Type 0 where
   pub steps : List Step
-  pub served : Serves input start is_alone history faults_before faults_after steps
+  pub served : Serves input start is_alone is_honest history faults_before faults_after steps
   pub written : Appends held (record_text steps) held_after
 
 -- The same, with a front of the text.
-pub record WritesFront (input : Option (List ℕ)) (start : ℕ) (is_alone : Type 0) (history : Option History) (faults_before faults_after : ℕ) (held held_after : Option (List ℕ)) : Type 0 where
+pub record WritesFront (input : Option (List ℕ)) (start : ℕ) (is_alone is_honest : Type 0) (history : Option History) (faults_before faults_after : ℕ) (held held_after : Option (List ℕ)) : Type 0 where
   pub steps : List Step
-  pub served : Serves input start is_alone history faults_before faults_after steps
+  pub served : Serves input start is_alone is_honest history faults_before faults_after steps
   pub written : AppendsFront held (record_text steps) held_after
 
 -- the statuses with which nothing is written and no bucket call is made

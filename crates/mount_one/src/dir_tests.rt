@@ -1,39 +1,27 @@
-use crate::tests::{assert_replies, replies_in, roomy_sink};
+use crate::tests::{assert_replies, assert_replies_with};
 use mem_store::MemStore;
-use mount_core::Core;
-use mp_driver::{Schedule, drive};
-use mp_io::ListClock;
-use mp_record::print_record;
-use mp_script::read_script;
 use mp_types::Opts;
 use std::alloc::Global;
 use std::process::Abort;
 use std::test::Fail;
 
-// Serves a script over an empty bucket with these options, and compares its replies.
-fn assert_served_with(
+// Serves a script over an empty bucket, where `unlink` may delete, and compares its replies.
+fn assert_served_deleting(
     rt: &impl Abort,
     alloc: Global,
-    options: Opts,
     script: &str,
     expected: &str,
 ) -> Result<(), Fail> {
-    let lines = match read_script(alloc, script.as_bytes()) {
-        Ok(lines) => lines,
-        Err(_) => return Err("it is a script".into()),
-    };
-    let core = Core::new(alloc, lines, options)?;
-    let mut store = MemStore::new(alloc)?;
-    let mut clock = ListClock::new(vec![in alloc; 0u64]?);
-    let core = drive(alloc, core, &mut store, &mut clock, &Schedule::Oldest)?;
-    let mut sink = roomy_sink(alloc)?;
-    match print_record(alloc, core.record(), &mut sink) {
-        Ok(()) => {}
-        Err(_) => return Err("there is room".into()),
-    }
-    let replies = replies_in(alloc, sink.held())?;
-    assert_eq!(rt; replies.as_slice(), expected.as_bytes());
-    Ok(())
+    let mut options = Opts::default();
+    options.allow_delete = true;
+    assert_replies_with(
+        rt,
+        alloc,
+        options,
+        script,
+        &mut MemStore::new(alloc)?,
+        expected,
+    )
 }
 
 // A directory that is made here and one that an object implies are one to the user.
@@ -43,8 +31,7 @@ fn directories_are_made_and_removed(rt: HostRuntime) -> Result<(), Fail> {
         "1 mkdir /l\n1 mkdir /l/m\n1 rmdir /l\n1 rmdir /l/m\n1 rmdir /l\n1 stat /l\n0 put f t1\n1 unlink /f\n1 stat /f\n1 mkdir /d\n0 put d/x t1\n1 rmdir /d\n1 mkdir /d/x/y\n0 delete d/x\n1 stat /d\n1 rmdir /d\n1 stat /d\n";
     let expected =
         "R 1 ok\nR 2 ok\nR 3 err ENOTEMPTY\nR 4 ok\nR 5 ok\nR 6 err ENOENT\nR 7 made v1\nR 8 ok\nR 9 err ENOENT\nR 10 ok\nR 11 made v2\nR 12 err ENOTEMPTY\nR 13 err ENOTDIR\nR 14 gone\nR 15 dir\nR 16 ok\nR 17 err ENOENT\n";
-    let options = Opts { allow_delete: true };
-    assert_served_with(&rt, rt.alloc(), options, script, expected)
+    assert_served_deleting(&rt, rt.alloc(), script, expected)
 }
 
 // A directory of the mount's own hides a file of its name until it goes.
@@ -54,8 +41,7 @@ fn a_made_directory_hides_a_file(rt: HostRuntime) -> Result<(), Fail> {
         "1 mkdir /n\n0 put n t12\n1 stat /n\n1 openr 1 /n\n1 mkdir /n\n1 unlink /n\n1 rmdir /n\n1 stat /n\n1 rmdir /n\n";
     let expected =
         "R 1 ok\nR 2 made v1\nR 3 dir\nR 4 err EISDIR\nR 5 err EEXIST\nR 6 err EISDIR\nR 7 ok\nR 8 file 2\nR 9 err ENOTDIR\n";
-    let options = Opts { allow_delete: true };
-    assert_served_with(&rt, rt.alloc(), options, script, expected)
+    assert_served_deleting(&rt, rt.alloc(), script, expected)
 }
 
 #[test]

@@ -17,6 +17,8 @@ mod served;
 mod status;
 #[cfg(test)]
 mod tests;
+#[cfg(test)]
+mod write_tests;
 
 use mem_store::MemStore;
 use message::tell;

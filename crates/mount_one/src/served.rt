@@ -62,8 +62,8 @@ fn serve<K: Sink, T: Store, C: Clock>(
 ) -> Status
     requires { AreRising 0 script }
     ensures ends { (input : Option (List ℕ)) → Spells input script → Ends result
-        (WritesRecord input (T.position store.old) (T.is_alone store.old) (T.history store.new) (T.faults store.old) (T.faults store.new) (K.held sink.old) (K.held sink.new))
-        (WritesFront input (T.position store.old) (T.is_alone store.old) (T.history store.new) (T.faults store.old) (T.faults store.new) (K.held sink.old) (K.held sink.new))
+        (WritesRecord input (T.position store.old) (T.is_alone store.old) (T.is_honest store.old) (T.history store.new) (T.faults store.old) (T.faults store.new) (K.held sink.old) (K.held sink.new))
+        (WritesFront input (T.position store.old) (T.is_alone store.old) (T.is_honest store.old) (T.history store.new) (T.faults store.old) (T.faults store.new) (K.held sink.old) (K.held sink.new))
         (HasRisen (K.faults sink.old) (K.faults sink.new))
         ((sink.new ≡ sink.old) × (store.new ≡ store.old)) }
     ensures honest { T.is_honest store.old → T.is_honest store.new }
@@ -94,7 +94,7 @@ pub fn run<S: Source, K: Sink, T: Store, C: Clock>(
 ) -> Status
     // The script was read to its end, and what was written is the text of the record of a run of it.
     ensures done { result ≡ Status.Done → IsSpent (S.left source.new)
-        × WritesRecord (S.left source.old) (T.position store.old) (T.is_alone store.old) (T.history store.new) (T.faults store.old) (T.faults store.new) (K.held sink.old) (K.held sink.new) }
+        × WritesRecord (S.left source.old) (T.position store.old) (T.is_alone store.old) (T.is_honest store.old) (T.history store.new) (T.faults store.old) (T.faults store.new) (K.held sink.old) (K.held sink.new) }
 
     // Each refusal comes for its cause alone, and then nothing is written and no bucket call is made.
     ensures usage { (result ≡ Status.Usage) ↔ (AreWords words.now → ⊥) }
@@ -105,9 +105,9 @@ pub fn run<S: Source, K: Sink, T: Store, C: Clock>(
 
     // What was written before a failure is a front of such a text.
     ensures sink_fault { result ≡ Status.SinkFault → HasRisen (K.faults sink.old) (K.faults sink.new)
-        × WritesFront (S.left source.old) (T.position store.old) (T.is_alone store.old) (T.history store.new) (T.faults store.old) (T.faults store.new) (K.held sink.old) (K.held sink.new) }
+        × WritesFront (S.left source.old) (T.position store.old) (T.is_alone store.old) (T.is_honest store.old) (T.history store.new) (T.faults store.old) (T.faults store.new) (K.held sink.old) (K.held sink.new) }
     ensures no_memory { result ≡ Status.NoMemory → ((sink.new ≡ sink.old) × (store.new ≡ store.old))
-        ⊎ WritesFront (S.left source.old) (T.position store.old) (T.is_alone store.old) (T.history store.new) (T.faults store.old) (T.faults store.new) (K.held sink.old) (K.held sink.new) }
+        ⊎ WritesFront (S.left source.old) (T.position store.old) (T.is_alone store.old) (T.is_honest store.old) (T.history store.new) (T.faults store.old) (T.faults store.new) (K.held sink.old) (K.held sink.new) }
 
     // Where the words are right, the bytes are a script, and neither source nor sink failed, the run is done, or
     // there was no memory.

@@ -1,11 +1,17 @@
+ghost use Rattle.mp_types.specs.Options.{AreWithin};
+
 use crate::served::run;
 use crate::status::Status;
 use bucket_model::Call;
 use fault_store::{Faulty, Meddled, When};
 use mem_store::MemStore;
+use mount_core::Core;
 use mount_model::{ScriptCause, What};
+use mp_driver::{Schedule, drive};
 use mp_io::{ListClock, MemSink, MemSource};
-use mp_types::{Key, Text};
+use mp_record::print_record;
+use mp_script::read_script;
+use mp_types::{Key, Opts, Text};
 use std::alloc::Global;
 use std::process::Abort;
 use std::test::Fail;
@@ -91,6 +97,46 @@ pub fn assert_replies<T: Store>(
     )?;
     assert_eq!(rt; outcome.status, Status::Done);
     let replies = replies_in(alloc, outcome.written.as_slice())?;
+    assert_eq!(rt; replies.as_slice(), expected.as_bytes());
+    Ok(())
+}
+
+// The record of a script that was served over this store with these options.
+pub fn record_with<T: Store>(
+    alloc: Global,
+    options: Opts,
+    script: &str,
+    store: &mut T,
+) -> Result<Vec<u8>, Fail>
+    requires { AreWithin options }
+{
+    let lines = match read_script(alloc, script.as_bytes()) {
+        Ok(lines) => lines,
+        Err(_) => return Err("it is a script".into()),
+    };
+    let core = Core::new(alloc, lines, options)?;
+    let mut clock = ListClock::new(vec![in alloc; 0u64]?);
+    let core = drive(alloc, core, store, &mut clock, &Schedule::Oldest)?;
+    let mut sink = roomy_sink(alloc)?;
+    match print_record(alloc, core.record(), &mut sink) {
+        Ok(()) => Ok(sink.held().to_vec(alloc)?),
+        Err(_) => Err("there is room".into()),
+    }
+}
+
+// Serves a script over this store with these options, and compares its replies.
+pub fn assert_replies_with<T: Store>(
+    rt: &impl Abort,
+    alloc: Global,
+    options: Opts,
+    script: &str,
+    store: &mut T,
+    expected: &str,
+) -> Result<(), Fail>
+    requires { AreWithin options }
+{
+    let record = record_with(alloc, options, script, store)?;
+    let replies = replies_in(alloc, record.as_slice())?;
     assert_eq!(rt; replies.as_slice(), expected.as_bytes());
     Ok(())
 }

@@ -1,28 +1,48 @@
 -- What a plan says that a line does next.
-use Rattle.std.specs.Prelude.{◌≡◌, ◌<◌, ◌≤◌, length, Option, None, Some}
+use Rattle.std.specs.Prelude.{◌≡◌, ℕ, ◌<◌, ◌≤◌, length, Option, None, Some}
 use Rattle.mp_types.specs.Content.{bytes_of}
 use Rattle.bucket_model.specs.declared.call.Call.TheVariants as call
+use Rattle.mount_model.specs.declared.handle.Handle.TheVariants.{Writing}
 use Rattle.mount_model.specs.declared.standing.Heard.{Heard}
 use Rattle.mount_model.specs.declared.standing.Told.{Told}
 use Rattle.mount_model.specs.Heard.{with_told}
-use Rattle.mount_model.specs.Conversation.{Next, Asks, Replies, Makes, Removes, Opens, Gives, Waits}
+use Rattle.mount_model.specs.Conversation.{Next, Asks, Replies, Makes, Removes, Opens, Creates, Gives, Waits, write_to, sync_next, close_next}
+use Rattle.mount_model.specs.declared.request.Request.{Request}
+use Rattle.mount_model.specs.declared.request.Request.TheVariants as request
+use Rattle.mount_model.specs.Handles.{Handle}
 use Rattle.mount_plan.specs.declared.planned.Plan.{Plan}
-use Rattle.mount_plan.specs.declared.planned.Plan.TheVariants.{Probe, Head, Get, Put, Delete, Unlink, Reply, MakeDir, RemoveDir, Open, Give, Wait}
+use Rattle.mount_plan.specs.declared.planned.Plan.TheVariants.{Line, Write, Sync, Finish}
+use Rattle.mount_plan.specs.declared.planned.LinePlan.{LinePlan}
+use Rattle.mount_plan.specs.declared.planned.LinePlan.TheVariants.{Probe, Head, Get, Put, Delete, Unlink, Reply, MakeDir, RemoveDir, Open, Create, Give, Wait}
 
 -- keys that stand in a path have 1 to 1,024 bytes, and a range that is asked for has at least one
+abbrev pub MeansOne : LinePlan → Next → Type 0
+MeansOne (Probe key) next = (next ≡ Asks (call.Probe key.now)) × (0 < length key.now) × (length key.now ≤ 1024)
+MeansOne (Head key) next = (next ≡ Asks (call.Head key.now)) × (0 < length key.now) × (length key.now ≤ 1024)
+MeansOne (Get version from to) next = (next ≡ Asks (call.Get version.now.key version.now.etag from to)) × (from < to)
+MeansOne (Put key content) next = next ≡ Asks (call.Put key.now (bytes_of content.now))
+MeansOne (Delete key) next = next ≡ Asks (call.Delete key.now)
+MeansOne (Unlink key) next = (next ≡ Asks (call.Delete key.now)) × (0 < length key.now) × (length key.now ≤ 1024)
+MeansOne (Reply said) next = next ≡ Replies said
+MeansOne (MakeDir key) next = (next ≡ Makes key.now) × (0 < length key.now) × (length key.now ≤ 1024)
+MeansOne (RemoveDir key) next = (next ≡ Removes key.now) × (0 < length key.now) × (length key.now ≤ 1024)
+MeansOne (Open key etag size) next = (next ≡ Opens (record { key = key.now; etag = etag; size = size })) × (0 < length key.now) × (length key.now ≤ 1024)
+MeansOne (Create key) next = (next ≡ Creates key.now) × (0 < length key.now) × (length key.now ≤ 1024)
+MeansOne (Give count) next = next ≡ Gives count
+MeansOne Wait next = next ≡ Waits
+
 abbrev pub Means : Plan → Next → Type 0
-Means (Probe key) next = (next ≡ Asks (call.Probe key.now)) × (0 < length key.now) × (length key.now ≤ 1024)
-Means (Head key) next = (next ≡ Asks (call.Head key.now)) × (0 < length key.now) × (length key.now ≤ 1024)
-Means (Get version from to) next = (next ≡ Asks (call.Get version.now.key version.now.etag from to)) × (from < to)
-Means (Put key content) next = next ≡ Asks (call.Put key.now (bytes_of content.now))
-Means (Delete key) next = next ≡ Asks (call.Delete key.now)
-Means (Unlink key) next = (next ≡ Asks (call.Delete key.now)) × (0 < length key.now) × (length key.now ≤ 1024)
-Means (Reply said) next = next ≡ Replies said
-Means (MakeDir key) next = (next ≡ Makes key.now) × (0 < length key.now) × (length key.now ≤ 1024)
-Means (RemoveDir key) next = (next ≡ Removes key.now) × (0 < length key.now) × (length key.now ≤ 1024)
-Means (Open key etag size) next = (next ≡ Opens (record { key = key.now; etag = etag; size = size })) × (0 < length key.now) × (length key.now ≤ 1024)
-Means (Give count) next = next ≡ Gives count
-Means Wait next = next ≡ Waits
+Means (Line plan) next = MeansOne plan next
+Means (Write writer offset content) next = next ≡ write_to writer.now offset (bytes_of content.now)
+Means (Sync writer line) next = next ≡ sync_next line (Some (Writing writer.now))
+Means (Finish writer line) next = next ≡ close_next line (Some (Writing writer.now))
+
+-- the writer is that of the handle that the request names
+abbrev pub IsFor : Plan → Request → Option Handle → Type 0
+IsFor (Line plan) asked handle = Unit {0}
+IsFor (Write writer offset content) asked handle = (name : ℕ) × (asked ≡ request.Write name offset content.now) × (handle ≡ Some (Writing writer.now))
+IsFor (Sync writer line) asked handle = (name : ℕ) × (asked ≡ request.Sync name) × (handle ≡ Some (Writing writer.now))
+IsFor (Finish writer line) asked handle = (name : ℕ) × (asked ≡ request.Close name) × (handle ≡ Some (Writing writer.now))
 
 -- what a line has heard, with its last answer
 abbrev pub with_last : Option Told → Heard → Heard

@@ -4,4 +4,4 @@ use Rattle.mount_model.specs.Conversation as model
 use Rattle.mount_plan.specs.declared.view.View.{View}
 
 abbrev pub view_of : View → model.View
-view_of view = record { options = view.options; handle = option_copied view.handle; live = view.live; names = view.names.now }
+view_of view = record { line = view.line; options = view.options; handle = option_copied view.handle; live = view.live; names = view.names.now }

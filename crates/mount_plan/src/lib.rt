@@ -16,11 +16,13 @@ mod put;
 mod read;
 mod remove;
 mod stat;
+mod sync;
 mod unlink;
 mod view;
+mod write;
 
 pub use next::plan;
-pub use planned::Plan;
+pub use planned::{LinePlan, Plan};
 pub use view::View;
 
 #[cfg(test)]

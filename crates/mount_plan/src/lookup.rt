@@ -7,7 +7,7 @@ ghost use Rattle.mount_plan.specs.Seen.{view_of};
 
 use crate::answered::{errno, first_answer, last_fact};
 use crate::planned::failed;
-use crate::{Plan, View};
+use crate::{LinePlan, View};
 use mount_model::{Heard, Told};
 use mp_rules::Entry;
 use mp_types::{Errno, PathFault};
@@ -38,7 +38,7 @@ pub fn look_up<'a>(
     view: &View<'_>,
     heard: &Heard,
     last: Option<&Told>,
-) -> Result<Found, Plan<'a>>
+) -> Result<Found, LinePlan<'a>>
     requires names { are_names (names_in below.now) ≡ true }
     requires short { length below.now ≤ 1024 }
     ensures { let all = with_last (option_copied last.entry) heard.now in
@@ -51,8 +51,8 @@ pub fn look_up<'a>(
         return Err(failed(errno(answer)));
     }
     match decide(below, view.names, &heard.facts, last_fact(last)) {
-        Decision::Probe(key) => Err(Plan::Probe(key)),
-        Decision::Head(key) => Err(Plan::Head(key)),
+        Decision::Probe(key) => Err(LinePlan::Probe(key)),
+        Decision::Head(key) => Err(LinePlan::Head(key)),
         Decision::Is(entry) => Ok(Found::Entry(entry)),
         Decision::Refused(errno) => Err(failed(errno)),
     }

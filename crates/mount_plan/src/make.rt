@@ -1,30 +1,37 @@
 ghost use Rattle.std.specs.Prelude.{◌≡◌, ◌<◌, ◌≤◌, length, option_copied};
 ghost use Rattle.mp_types.specs.Path.{path_of};
 ghost use Rattle.mount_model.specs.Conversation.{make_at, make_next};
-ghost use Rattle.mount_plan.specs.Meant.{Means, with_last};
+ghost use Rattle.mount_plan.specs.Meant.{MeansOne, with_last};
 ghost use Rattle.mount_plan.specs.Seen.{view_of};
 
 use crate::lookup::{Found, look_up, path_errno};
 use crate::planned::failed;
-use crate::{Plan, View};
+use crate::{LinePlan, View};
 use mount_model::{Heard, Told};
 use mp_rules::Entry;
 use mp_types::{Errno, below_root};
 
-fn entry_plan(key: &str, entry: Entry) -> Plan<'_>
+fn entry_plan(key: &str, entry: Entry) -> LinePlan<'_>
     requires some { 0 < length key.now }
     requires short { length key.now ≤ 1024 }
-    ensures { Means result (make_at key.now entry) }
+    ensures { MeansOne result (make_at key.now entry) }
 {
     match entry {
-        Entry::Nothing => Plan::MakeDir(key),
-        Entry::RemoteDir | Entry::LocalDir | Entry::File { .. } => failed(Errno::Eexist),
+        Entry::Nothing => LinePlan::MakeDir(key),
+        Entry::RemoteDir | Entry::LocalDir | Entry::LocalFile { .. } | Entry::File { .. } => {
+            failed(Errno::Eexist)
+        }
     }
 }
 
 /// What a `mkdir` does next: a directory is made only where nothing stands.
-pub fn make_plan<'a>(path: &'a str, view: &View<'_>, heard: &Heard, last: Option<&Told>) -> Plan<'a>
-    ensures { Means result (make_next (view_of view.now) (path_of path.now) (with_last (option_copied last.entry) heard.now)) }
+pub fn make_plan<'a>(
+    path: &'a str,
+    view: &View<'_>,
+    heard: &Heard,
+    last: Option<&Told>,
+) -> LinePlan<'a>
+    ensures { MeansOne result (make_next (view_of view.now) (path_of path.now) (with_last (option_copied last.entry) heard.now)) }
 {
     let below = match below_root(path) {
         Ok(below) => below,

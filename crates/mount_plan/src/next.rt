@@ -1,18 +1,20 @@
 ghost use Rattle.std.specs.Prelude.{option_copied};
 ghost use Rattle.mount_model.specs.Conversation.{next_of};
-ghost use Rattle.mount_plan.specs.Meant.{Means, with_last};
+ghost use Rattle.mount_plan.specs.Meant.{IsFor, Means, with_last};
 ghost use Rattle.mount_plan.specs.Seen.{view_of};
 
 use crate::close::close_plan;
 use crate::delete::delete_plan;
 use crate::make::make_plan;
-use crate::open::open_plan;
+use crate::open::{Mode, open_plan};
 use crate::put::put_plan;
 use crate::read::read_plan;
 use crate::remove::remove_plan;
 use crate::stat::stat_plan;
+use crate::sync::sync_plan;
 use crate::unlink::unlink_plan;
-use crate::{Plan, View};
+use crate::write::write_plan;
+use crate::{LinePlan, Plan, View};
 use mount_model::{Heard, Request, Told};
 
 /// What a line with this request does next. The line has `heard` this of its own calls, and then `last`, which may
@@ -23,18 +25,43 @@ pub fn plan<'a>(
     heard: &Heard,
     last: Option<&Told>,
 ) -> Plan<'a>
-    ensures { Means result (next_of (view_of view.entry) request.now (with_last (option_copied last.entry) heard.now)) }
+    ensures means { Means result (next_of (view_of view.entry) request.now (with_last (option_copied last.entry) heard.now)) }
+    ensures whose { IsFor result request.now (view_of view.entry).handle }
 {
     match request {
-        Request::Put { key, content } => put_plan(key, content, heard, last),
-        Request::Await => Plan::Wait,
-        Request::Stat { path } => stat_plan(path.as_str(), &view, heard, last),
-        Request::OpenRead { path, .. } => open_plan(path.as_str(), &view, heard, last),
-        Request::Read { offset, count, .. } => read_plan(view.handle, *offset, *count, heard, last),
-        Request::Close { .. } => close_plan(view.handle),
-        Request::Delete { key } => delete_plan(key, heard, last),
-        Request::MakeDir { path } => make_plan(path.as_str(), &view, heard, last),
-        Request::RemoveDir { path } => remove_plan(path.as_str(), &view, heard, last),
-        Request::Unlink { path } => unlink_plan(path.as_str(), &view, heard, last),
+        Request::Put { key, content } => Plan::Line(put_plan(key, content, heard, last)),
+        Request::Await => Plan::Line(LinePlan::Wait),
+        Request::Stat { path } => Plan::Line(stat_plan(path.as_str(), &view, heard, last)),
+        Request::OpenRead { path, .. } => Plan::Line(open_plan(
+            path.as_str(),
+            Mode::Read,
+            &view,
+            heard,
+            last,
+        )),
+        Request::OpenWrite { path, .. } => {
+            Plan::Line(open_plan(path.as_str(), Mode::Write, &view, heard, last))
+        }
+        Request::OpenTruncate { path, .. } => {
+            Plan::Line(open_plan(path.as_str(), Mode::Truncate, &view, heard, last))
+        }
+        Request::Read { offset, count, .. } => Plan::Line(read_plan(
+            view.handle,
+            *offset,
+            *count,
+            heard,
+            last,
+        )),
+        Request::Write {
+            offset,
+            content,
+            ..
+        } => write_plan(view.handle, *offset, content),
+        Request::Sync { .. } => sync_plan(view.handle, view.line),
+        Request::Close { .. } => close_plan(view.handle, view.line),
+        Request::Delete { key } => Plan::Line(delete_plan(key, heard, last)),
+        Request::MakeDir { path } => Plan::Line(make_plan(path.as_str(), &view, heard, last)),
+        Request::RemoveDir { path } => Plan::Line(remove_plan(path.as_str(), &view, heard, last)),
+        Request::Unlink { path } => Plan::Line(unlink_plan(path.as_str(), &view, heard, last)),
     }
 }

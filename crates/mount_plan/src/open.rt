@@ -1,35 +1,76 @@
 ghost use Rattle.std.specs.Prelude.{◌≡◌, ◌<◌, ◌≤◌, length, option_copied};
 ghost use Rattle.mp_types.specs.Path.{path_of};
-ghost use Rattle.mount_model.specs.Conversation.{open_at, open_next};
-ghost use Rattle.mount_plan.specs.Meant.{Means, with_last};
+ghost use Rattle.mount_model.specs.Conversation.{create_at, open_at, open_next};
+ghost use Rattle.mount_plan.specs.Meant.{MeansOne, with_last};
+ghost use Rattle.mount_plan.specs.Opened.{opened_at};
 ghost use Rattle.mount_plan.specs.Seen.{view_of};
 
 use crate::lookup::{Found, look_up, path_errno};
 use crate::planned::failed;
-use crate::{Plan, View};
+use crate::{LinePlan, View};
 use mount_model::{Heard, Told};
 use mp_rules::Entry;
-use mp_types::{Errno, below_root};
+use mp_types::{Errno, MAX_HANDLES, below_root};
 
-// At most this many handles are live at once.
-const MAX_HANDLES: usize = 4096;
+/// What a path is opened for.
+#[derive(Clone, Copy)]
+pub enum Mode {
+    Read,
+    /// A new file, where nothing stands.
+    Write,
+    /// A new file, in the place of an object too, where the options allow it.
+    Truncate,
+}
 
-fn entry_plan(key: &str, live: usize, entry: Entry) -> Plan<'_>
+fn reader_plan(key: &str, live: usize, entry: Entry) -> LinePlan<'_>
     requires some { 0 < length key.now }
     requires short { length key.now ≤ 1024 }
-    ensures { Means result (open_at live key.now entry) }
+    ensures { MeansOne result (open_at live key.now entry) }
 {
     match entry {
         Entry::RemoteDir | Entry::LocalDir => failed(Errno::Eisdir),
+        Entry::LocalFile { .. } => failed(Errno::Eperm),
         Entry::File { .. } if live == MAX_HANDLES => failed(Errno::Emfile),
-        Entry::File { etag, size } => Plan::Open { key, etag, size },
+        Entry::File { etag, size } => LinePlan::Open { key, etag, size },
         Entry::Nothing => failed(Errno::Enoent),
     }
 }
 
-/// What an open for reading does next. A faulty path comes before a handle's name that is live.
-pub fn open_plan<'a>(path: &'a str, view: &View<'_>, heard: &Heard, last: Option<&Told>) -> Plan<'a>
-    ensures { Means result (open_next (view_of view.now) (option_copied view.now.handle) (path_of path.now) (with_last (option_copied last.entry) heard.now)) }
+fn writer_plan(key: &str, may_overwrite: bool, live: usize, entry: Entry) -> LinePlan<'_>
+    requires some { 0 < length key.now }
+    requires short { length key.now ≤ 1024 }
+    ensures { MeansOne result (create_at may_overwrite live key.now entry) }
+{
+    match entry {
+        Entry::RemoteDir | Entry::LocalDir => failed(Errno::Eisdir),
+        Entry::LocalFile { .. } => failed(Errno::Eperm),
+        Entry::File { .. } if !may_overwrite => failed(Errno::Eperm),
+        Entry::File { .. } | Entry::Nothing if live == MAX_HANDLES => failed(Errno::Emfile),
+        Entry::File { .. } | Entry::Nothing => LinePlan::Create { key },
+    }
+}
+
+fn entry_plan<'a>(key: &'a str, mode: Mode, view: &View<'_>, entry: Entry) -> LinePlan<'a>
+    requires some { 0 < length key.now }
+    requires short { length key.now ≤ 1024 }
+    ensures { MeansOne result (opened_at view.now.options mode view.now.live key.now entry) }
+{
+    match mode {
+        Mode::Read => reader_plan(key, view.live, entry),
+        Mode::Write => writer_plan(key, false, view.live, entry),
+        Mode::Truncate => writer_plan(key, view.options.allow_overwrite, view.live, entry),
+    }
+}
+
+/// What an open does next. A faulty path comes before a handle's name that is live.
+pub fn open_plan<'a>(
+    path: &'a str,
+    mode: Mode,
+    view: &View<'_>,
+    heard: &Heard,
+    last: Option<&Told>,
+) -> LinePlan<'a>
+    ensures { MeansOne result (open_next (opened_at view.now.options mode) (view_of view.now) (option_copied view.now.handle) (path_of path.now) (with_last (option_copied last.entry) heard.now)) }
 {
     let below = match below_root(path) {
         Ok(below) => below,
@@ -40,7 +81,7 @@ pub fn open_plan<'a>(path: &'a str, view: &View<'_>, heard: &Heard, last: Option
     }
     match look_up(below, view, heard, last) {
         Ok(Found::Root) => failed(Errno::Eisdir),
-        Ok(Found::Entry(entry)) => entry_plan(below, view.live, entry),
+        Ok(Found::Entry(entry)) => entry_plan(below, mode, view, entry),
         Err(plan) => plan,
     }
 }

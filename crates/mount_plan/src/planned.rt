@@ -1,11 +1,34 @@
 ghost use Rattle.std.specs.Prelude.{◌≡◌};
 
-use mount_model::{Reply, Version};
+use mount_model::{Reply, Version, Writer};
 use mp_types::{Data, ETag, Errno, Key};
+use part_uploader::Uploader;
 
-/// What a line does next.
-#[derive(Debug, Drop)]
+/// What a line does next, or the writer of the handle that it names.
+#[derive(Drop)]
 pub enum Plan<'a> {
+    Line(LinePlan<'a>),
+    /// The content goes to the writer at place `offset`, or is refused where the writer doesn't take it.
+    Write {
+        writer: &'a Writer<Uploader>,
+        offset: u64,
+        content: &'a Data,
+    },
+    /// The writer makes its object, and the fsync of this line waits for it.
+    Sync {
+        writer: &'a Writer<Uploader>,
+        line: u32,
+    },
+    /// The writer makes its object, and the close of this line waits for it.
+    Finish {
+        writer: &'a Writer<Uploader>,
+        line: u32,
+    },
+}
+
+/// What a line does next by itself.
+#[derive(Drop)]
+pub enum LinePlan<'a> {
     /// It asks whether the path of this key, of 1 to 1,024 bytes, is a directory.
     Probe(&'a str),
     /// It asks whether a file stands at this key, of 1 to 1,024 bytes.
@@ -37,6 +60,10 @@ pub enum Plan<'a> {
         etag: ETag,
         size: u64,
     },
+    /// It opens its handle on a new file at the key, of 1 to 1,024 bytes.
+    Create {
+        key: &'a str,
+    },
     /// It gives the bytes of its last answer, `count` of them. No bytes may also come without any call.
     Give {
         count: u64,
@@ -46,8 +73,8 @@ pub enum Plan<'a> {
 }
 
 /// The plan to fail the line with this error.
-pub fn failed<'a>(errno: Errno) -> Plan<'a>
-    ensures { result ≡ Plan.Reply (Reply.Failed errno) }
+pub fn failed<'a>(errno: Errno) -> LinePlan<'a>
+    ensures { result ≡ LinePlan.Reply (Reply.Failed errno) }
 {
-    Plan::Reply(Reply::Failed(errno))
+    LinePlan::Reply(Reply::Failed(errno))
 }

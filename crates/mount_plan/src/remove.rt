@@ -1,27 +1,27 @@
 ghost use Rattle.std.specs.Prelude.{◌≡◌, ◌<◌, ◌≤◌, length, option_copied};
 ghost use Rattle.mp_types.specs.Path.{path_of};
 ghost use Rattle.mount_model.specs.Conversation.{remove_at, remove_next};
-ghost use Rattle.mount_plan.specs.Meant.{Means, with_last};
+ghost use Rattle.mount_plan.specs.Meant.{MeansOne, with_last};
 ghost use Rattle.mount_plan.specs.Seen.{view_of};
 
 use crate::lookup::{Found, look_up, path_errno};
 use crate::planned::failed;
-use crate::{Plan, View};
+use crate::{LinePlan, View};
 use local_names::Locals;
 use mount_model::{Heard, Told};
 use mp_rules::Entry;
 use mp_types::{Errno, below_root};
 
-fn entry_plan<'a>(key: &'a str, names: &Locals, entry: Entry) -> Plan<'a>
+fn entry_plan<'a>(key: &'a str, names: &Locals, entry: Entry) -> LinePlan<'a>
     requires some { 0 < length key.now }
     requires short { length key.now ≤ 1024 }
-    ensures { Means result (remove_at names.now key.now entry) }
+    ensures { MeansOne result (remove_at names.now key.now entry) }
 {
     match entry {
         Entry::RemoteDir => failed(Errno::Enotempty),
         Entry::LocalDir if names.has_below(key) => failed(Errno::Enotempty),
-        Entry::LocalDir => Plan::RemoveDir(key),
-        Entry::File { .. } => failed(Errno::Enotdir),
+        Entry::LocalDir => LinePlan::RemoveDir(key),
+        Entry::LocalFile { .. } | Entry::File { .. } => failed(Errno::Enotdir),
         Entry::Nothing => failed(Errno::Enoent),
     }
 }
@@ -32,8 +32,8 @@ pub fn remove_plan<'a>(
     view: &View<'_>,
     heard: &Heard,
     last: Option<&Told>,
-) -> Plan<'a>
-    ensures { Means result (remove_next (view_of view.now) (path_of path.now) (with_last (option_copied last.entry) heard.now)) }
+) -> LinePlan<'a>
+    ensures { MeansOne result (remove_next (view_of view.now) (path_of path.now) (with_last (option_copied last.entry) heard.now)) }
 {
     let below = match below_root(path) {
         Ok(below) => below,

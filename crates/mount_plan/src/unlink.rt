@@ -2,13 +2,13 @@ ghost use Rattle.std.specs.Prelude.{◌≡◌, ◌<◌, ◌≤◌, length, optio
 ghost use Rattle.mp_types.specs.Path.{path_of};
 ghost use Rattle.mount_model.specs.Conversation.{unlink_at, unlink_next};
 ghost use Rattle.mount_plan.specs.Gone.{is_gone};
-ghost use Rattle.mount_plan.specs.Meant.{Means, with_last};
+ghost use Rattle.mount_plan.specs.Meant.{MeansOne, with_last};
 ghost use Rattle.mount_plan.specs.Seen.{view_of};
 
 use crate::answered::first_answer;
 use crate::lookup::{Found, look_up, path_errno};
 use crate::planned::failed;
-use crate::{Plan, View};
+use crate::{LinePlan, View};
 use bucket_model::Brief;
 use mount_model::{Heard, Reply, Told};
 use mp_rules::Entry;
@@ -20,14 +20,15 @@ fn is_gone(answer: Option<&Brief>) -> bool
     matches!(answer, Some(Brief::Gone))
 }
 
-fn entry_plan(key: &str, may_delete: bool, entry: Entry) -> Plan<'_>
+fn entry_plan(key: &str, may_delete: bool, entry: Entry) -> LinePlan<'_>
     requires some { 0 < length key.now }
     requires short { length key.now ≤ 1024 }
-    ensures { Means result (unlink_at may_delete key.now entry) }
+    ensures { MeansOne result (unlink_at may_delete key.now entry) }
 {
     match entry {
         Entry::RemoteDir | Entry::LocalDir => failed(Errno::Eisdir),
-        Entry::File { .. } if may_delete => Plan::Unlink(key),
+        Entry::LocalFile { .. } => failed(Errno::Eperm),
+        Entry::File { .. } if may_delete => LinePlan::Unlink(key),
         Entry::File { .. } => failed(Errno::Eperm),
         Entry::Nothing => failed(Errno::Enoent),
     }
@@ -40,15 +41,15 @@ pub fn unlink_plan<'a>(
     view: &View<'_>,
     heard: &Heard,
     last: Option<&Told>,
-) -> Plan<'a>
-    ensures { Means result (unlink_next (view_of view.now) (path_of path.now) (with_last (option_copied last.entry) heard.now)) }
+) -> LinePlan<'a>
+    ensures { MeansOne result (unlink_next (view_of view.now) (path_of path.now) (with_last (option_copied last.entry) heard.now)) }
 {
     let below = match below_root(path) {
         Ok(below) => below,
         Err(why) => return failed(path_errno(why)),
     };
     if is_gone(first_answer(heard, last)) {
-        return Plan::Reply(Reply::Success);
+        return LinePlan::Reply(Reply::Success);
     }
     match look_up(below, view, heard, last) {
         Ok(Found::Root) => failed(Errno::Eisdir),

@@ -1,6 +1,7 @@
 -- What holds between two turns of the driver.
 use Rattle.std.proofs.Common.{◌≡◌, ◌≢◌, ℕ, ◌<◌, ◌≤◌, true, false, List, ◌++◌, length, Option, Some, None, ◌⊎◌}
 use Rattle.mp_types.specs.declared.options.Opts.{Opts}
+use Rattle.mp_types.specs.Options.{AreWithin}
 use Rattle.std.specs.List.{slice_get, AllByRecursion}
 use Rattle.bucket_model.specs.declared.call.Call.{Call}
 use Rattle.bucket_model.specs.declared.answer.Brief.{Brief}
@@ -78,19 +79,23 @@ abbrev pub IsTiedToSoFar : Option History → Opts → List Line → ℕ → Typ
 IsTiedToSoFar None options script start is_alone held steps positions = Unit {0}
 IsTiedToSoFar (Some told) options script start is_alone held steps positions = IsTiedSoFar options script start is_alone told.log held steps positions
 
+-- options and line numbers as a core has them
+abbrev pub AreServed : Opts → List Line → Type 0
+AreServed options script = AreWithin options × AreRising 0 script
+
 -- Each job that is out has its answer held, each answer has its own place before the store's position, and the
 -- record is tied and reads so far.
 pub record IsBetween (told : Option History) (position start : ℕ) (is_alone : Type 0) (held : List HeldAnswer) (options : Opts) (script : List Line) (steps : List Step) (state : ClientState) : Type 0 where
   pub so_far : IsRunSoFar options script steps
   pub grown : start ≤ position
   pub known : AllByRecursion (IsKnown held) state.jobs
-  pub owed : (job : ℕ) (got : HeldAnswer) → answer_for job held ≡ Some got → IsOwed told state.jobs got
+  pub owed : AreServed options script → (job : ℕ) (got : HeldAnswer) → answer_for job held ≡ Some got → IsOwed told state.jobs got
   pub behind : AllByRecursion (λ p. p < position) state.positions
   pub below : (job : ℕ) (got : HeldAnswer) → answer_for job held ≡ Some got → is_counted (brief_of got.answer) ≡ true → got.position < position
   pub fresh : (job : ℕ) (got : HeldAnswer) → answer_for job held ≡ Some got → is_counted (brief_of got.answer) ≡ true → is_among got.position state.positions ≡ false
   pub apart : (i j : ℕ) (one other : HeldAnswer) → answer_for i held ≡ Some one → answer_for j held ≡ Some other → i ≢ j → is_counted (brief_of one.answer) ≡ true → is_counted (brief_of other.answer) ≡ true → one.position ≢ other.position
   pub tied : IsTiedToSoFar told options script start is_alone held steps state.positions
-  pub reads : AreRising 0 script → ReadsOver told options script steps
+  pub reads : AreServed options script → ReadsOver told options script steps
 
 -- the same of a core
 abbrev pub IsAtTurn : Option History → ℕ → ℕ → Type 0 → List HeldAnswer → CoreState → Type 0

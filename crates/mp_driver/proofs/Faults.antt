@@ -4,7 +4,7 @@ use Rattle.std.proofs.lemmas.Bool.{cases_lt}
 use Rattle.std.proofs.lemmas.List.Sums.{sum_by_push}
 use Rattle.mp_types.specs.Count.{HasRisen}
 use Rattle.bucket_model.specs.declared.answer.Brief.{Brief}
-use Rattle.bucket_model.specs.declared.answer.Brief.TheVariants.{Found, Missing, Yes, No, Bytes, Changed, Gone, Made, Fault, NoMemory}
+use Rattle.bucket_model.specs.declared.answer.Brief.TheVariants.{Found, Missing, Yes, No, Bytes, Changed, Gone, Made, Upload, Stored, NoUpload, Fault, NoMemory}
 use Rattle.bucket_model.specs.Answers.{brief_of}
 use Rattle.bucket_model.specs.History.{History}
 use Rattle.mount_model.specs.declared.event.Event.{Event}
@@ -39,6 +39,9 @@ fault-is (Bytes count) is = absurd (cc)
 fault-is Changed is = absurd (cc)
 fault-is Gone is = absurd (cc)
 fault-is (Made etag) is = absurd (cc)
+fault-is (Upload upload) is = absurd (cc)
+fault-is Stored is = absurd (cc)
+fault-is NoUpload is = absurd (cc)
 fault-is NoMemory is = absurd (cc)
 
 risen-by : (b : Bool) (many before was now : ℕ) → (b ≡ true → HasRisen was now) → was ≤ now → HasRisenBy many before was → HasRisenBy (many + (if b then 1 else 0)) before now

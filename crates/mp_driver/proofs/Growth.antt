@@ -11,7 +11,7 @@ use Rattle.bucket_model.specs.History.{History}
 use Rattle.store_trait.specs.Told.{AddsFor, BringsSlice, Tells}
 use Rattle.mount_model.specs.declared.request.Line.{Line}
 use Rattle.mount_model.specs.Step.{Step}
-use Rattle.mount_model.specs.State.{Job, job_at}
+use Rattle.mount_model.specs.State.{Job, Out, job_at}
 use Rattle.mount_model.specs.Reads.{AreReads}
 use Rattle.mount_model.specs.Tied.{HasEntry}
 use Rattle.mp_driver.specs.declared.held.HeldAnswer.{HeldAnswer}
@@ -79,11 +79,11 @@ reads-more None (Some now) options script steps grows reads = absurd grows
 reads-more (Some was) None options script steps grows reads = absurd grows
 reads-more (Some was) (Some now) options script steps grows reads = subst (λ (versions : List ObjectVersion). AreReads versions options script steps) (sym grows.versions.1) (AreReads-more was.versions grows.versions.0 options script steps reads)
 
--- a held answer is owed, also where the history is longer and the jobs' list another one
-pub owed-more : (was now : Option History) (old new : List Job) (got : HeldAnswer) → Grows was now → ((job : Job) → job_at got.job old ≡ Some job → job_at got.job new ≡ Some job) → IsOwed was old got → IsOwed now new got
+-- a held answer is owed, also where the history is longer and the jobs are others, if jobs that are out stay so
+pub owed-more : (was now : Option History) (old new : List Job) (got : HeldAnswer) → Grows was now → ((job : Job) (from : ℕ) → job_at got.job old ≡ Some job → job.phase ≡ Out from → job_at got.job new ≡ Some job) → IsOwed was old got → IsOwed now new got
 owed-more was now old new got grows keeps owed = record {
   job = owed.job;
-  stands = keeps owed.job owed.stands;
+  stands = keeps owed.job owed.from owed.stands owed.is_out;
   from = owed.from;
   is_out = owed.is_out;
   kind = owed.kind;

@@ -1,14 +1,17 @@
 -- Jobs that are looked up, taken and done, and those that are out.
-use Rattle.std.proofs.Common.{◌≡◌, ◌≢◌, ℕ, zero, suc, Bool, true, false, ◌||◌, ◌==◌, List, [], ◌∷◌, ◌++◌, map, Option, Some, None, refl, sym, ◌∙◌, subst, inl, inr, ◌⊎◌, eq-eqb, eqb-true}
+use Rattle.std.proofs.Common.{◌≡◌, ◌≢◌, ℕ, zero, suc, Bool, true, false, ◌||◌, ◌==◌, List, [], ◌∷◌, ◌++◌, fold, Some, refl, sym, ◌∙◌, subst, inl, inr, ◌⊎◌, eq-eqb, eqb-true}
 use Rattle.std.specs.List.{slice_get, AllByRecursion}
 use Rattle.std.proofs.lemmas.List.Folds.{find-append}
+use Rattle.bucket_model.specs.declared.call.Call.{Call}
 use Rattle.mount_model.specs.declared.event.Ask.{Ask}
-use Rattle.mount_model.specs.declared.standing.Standing.{Standing}
-use Rattle.mount_model.specs.State.{Job, JobPhase, Ready, Out, Gone, job_at, change_job, job_of, jobs_asked}
+use Rattle.mount_model.specs.declared.request.Line.{Line}
+use Rattle.mount_model.specs.Step.{Step}
+use Rattle.mount_model.specs.Conversation.{Next, Asks, Replies, Makes, Removes, Opens, Creates, Gives, Writes, Ends, Waits}
+use Rattle.mount_model.specs.State.{Job, JobPhase, Ready, Out, Gone, Turn, TurnOf, TurnOfWriter, NoTurn, job_at, jobs_at, jobs_after, change_job, in_phase, jobs_made, jobs_asked, jobs_of_line, calls_of, askings_of}
 use Rattle.mount_model.specs.Run.{is_among, ready}
-use Rattle.run_laws.proofs.Keyed.{change_at-same, change_at-other}
-use Rattle.run_laws.proofs.Jobs.{job_number, in_phase}
-use Rattle.run_laws.proofs.Spared.{all-append}
+use Rattle.run_laws.proofs.Keyed.{change_at-same, change_at-other, all-append}
+use Rattle.run_laws.proofs.Jobs.{job_number}
+use Rattle.run_laws.proofs.Dropped.{drop_one}
 use Rattle.mp_driver.specs.declared.held.HeldAnswer.{HeldAnswer}
 use Rattle.mp_driver.specs.Held.{IsWith}
 use Rattle.mp_driver.proofs.Between.{KnowsPhase, IsKnown}
@@ -89,15 +92,36 @@ known-taken got less more from jobs with known = known-change less more got.job 
 pub known-done : (got : HeldAnswer) (less more : List HeldAnswer) (jobs : List Job) → IsWith got less more → AllByRecursion (IsKnown more) jobs → AllByRecursion (IsKnown less) (change_job got.job Gone jobs)
 known-done got less more jobs with known = known-change more less got.job Gone jobs (phase-less got less more with) tt known
 
--- new jobs are ready
+-- new jobs are ready, and dropped ones are gone
 
-known-new : (held : List HeldAnswer) (lines : List Standing) (line : ℕ) (asks : List Ask) → AllByRecursion (IsKnown held) (map (job_of lines line) asks)
-known-new held lines line [] = tt
-known-new held lines line (ask ∷ asks) = (tt, known-new held lines line asks)
+known-made : (held : List HeldAnswer) (line : ℕ) (asks : List Ask) (calls : List Call) → AllByRecursion (IsKnown held) (jobs_made line asks calls)
+known-made held line [] calls = tt
+known-made held line (ask ∷ asks) [] = tt
+known-made held line (ask ∷ asks) (called ∷ calls) = (tt, known-made held line asks calls)
 
-pub known-asked : (held : List HeldAnswer) (jobs : List Job) (lines : List Standing) (o : Option ℕ) (asks : List Ask) → AllByRecursion (IsKnown held) jobs → AllByRecursion (IsKnown held) (jobs ++ jobs_asked lines o asks)
-known-asked held jobs lines None asks known = all-append (IsKnown held) jobs [] known tt
-known-asked held jobs lines (Some line) asks known = all-append (IsKnown held) jobs (map (job_of lines line) asks) known (known-new held lines line asks)
+known-line : (held : List HeldAnswer) (step : Step) (line : Line) (next : Next) → AllByRecursion (IsKnown held) (jobs_of_line step line next)
+known-line held step line (Asks called) = known-made held line.number step.asks (called ∷ [])
+known-line held step line (Writes count writer) = known-made held writer.line step.asks (calls_of (askings_of step writer))
+known-line held step line (Ends writer) = known-made held writer.line step.asks (calls_of (askings_of step writer))
+known-line held step line (Replies said) = tt
+known-line held step line (Makes key) = tt
+known-line held step line (Removes key) = tt
+known-line held step line (Opens version) = tt
+known-line held step line (Creates key) = tt
+known-line held step line (Gives count) = tt
+known-line held step line Waits = tt
+
+known-asked : (held : List HeldAnswer) (step : Step) (turn : Turn) → AllByRecursion (IsKnown held) (jobs_asked step turn)
+known-asked held step (TurnOf line owner next) = known-line held step line next
+known-asked held step (TurnOfWriter name writer) = known-made held writer.line step.asks (calls_of (askings_of step writer))
+known-asked held step NoTurn = tt
+
+known-drops : (held : List HeldAnswer) (jobs : List Job) (drops : List ℕ) → AllByRecursion (IsKnown held) jobs → AllByRecursion (IsKnown held) (fold drop_one jobs drops)
+known-drops held jobs [] known = known
+known-drops held jobs (job ∷ drops) known = known-drops held (drop_one jobs job) drops (known-change held held job Gone jobs (λ number phase other is. is) tt known)
+
+pub known-after : (held : List HeldAnswer) (jobs : List Job) (step : Step) (turn : Turn) → AllByRecursion (IsKnown held) (jobs_at jobs step.event) → AllByRecursion (IsKnown held) (jobs_after jobs step turn)
+known-after held jobs step turn known = known-drops held (jobs_at jobs step.event ++ jobs_asked step turn) step.drops (all-append (IsKnown held) (jobs_at jobs step.event) (jobs_asked step turn) known (known-asked held step turn))
 
 -- where no job is ready and no answer is held, each job is gone
 pub all_gone : (jobs : List Job) → AllByRecursion (IsKnown []) jobs → ready jobs ≡ [] → AllByRecursion (λ job. job.phase ≡ Gone) jobs

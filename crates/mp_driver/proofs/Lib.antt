@@ -4,8 +4,10 @@ pub mod Versions
 pub mod Between
 pub mod Growth
 pub mod Jobs
+pub mod Stays
 pub mod Ties
 pub mod Turns
 pub mod Cores
 pub mod Faults
 pub mod Choices
+pub mod Written

@@ -9,7 +9,7 @@ use Rattle.bucket_model.specs.declared.answer.Answer.{Answer}
 use Rattle.bucket_model.specs.declared.answer.Answer.TheVariants as answer
 use Rattle.bucket_model.specs.Along.{Along}
 use Rattle.bucket_model.specs.Bucket.{ObjectVersion, IsSlice, is_version, slice_at}
-use Rattle.mount_model.specs.declared.handle.Handle.{Handle}
+use Rattle.mount_model.specs.declared.handle.Handle.TheVariants.{Reading, Writing}
 use Rattle.mount_model.specs.declared.handle.Version.{Version}
 use Rattle.mount_model.specs.declared.request.Request.{Request}
 use Rattle.mount_model.specs.declared.request.Request.TheVariants as request
@@ -20,10 +20,10 @@ use Rattle.mount_model.specs.declared.event.Answered.{Answered}
 use Rattle.mount_model.specs.declared.standing.Standing.{Standing}
 use Rattle.mount_model.specs.Step.{Step}
 use Rattle.mount_model.specs.Conversation.{Range, range_in}
-use Rattle.mount_model.specs.Handles.{Handles, handle_of}
+use Rattle.mount_model.specs.Handles.{Handle, Handles, handle_of}
 use Rattle.mount_model.specs.State.{ClientState, opening, after, line_at}
 use Rattle.mount_model.specs.Reads.{AreReads, IsDataAt, IsDataFor, IsRangeOf, IsReadOf, IsReadReply}
-use Rattle.run_laws.proofs.Spared.{all-more}
+use Rattle.run_laws.proofs.Keyed.{all-more}
 
 -- what is fine of each item, where what is fine grows
 pub Along-more : {S E : Type 0} (Fine More : S → E → Type 0) (next : S → E → S) → ((state : S) (item : E) → Fine state item → More state item) → (state : S) (items : List E) → Along Fine next state items → Along More next state items
@@ -48,12 +48,19 @@ module _ (versions more : List ObjectVersion) where
   IsSlice-more (call.Get key etag from to) answer.Changed is = tt
   IsSlice-more (call.Get key etag from to) answer.Gone is = tt
   IsSlice-more (call.Get key etag from to) (answer.Made made) is = tt
+  IsSlice-more (call.Get key etag from to) (answer.Upload upload) is = tt
+  IsSlice-more (call.Get key etag from to) answer.Stored is = tt
+  IsSlice-more (call.Get key etag from to) answer.NoUpload is = tt
   IsSlice-more (call.Get key etag from to) answer.Fault is = tt
   IsSlice-more (call.Get key etag from to) answer.NoMemory is = tt
   IsSlice-more (call.Head key) said is = tt
   IsSlice-more (call.Probe key) said is = tt
   IsSlice-more (call.Delete key) said is = tt
   IsSlice-more (call.Put key bytes) said is = tt
+  IsSlice-more (call.Create key) said is = tt
+  IsSlice-more (call.Part upload number bytes) said is = tt
+  IsSlice-more (call.Complete upload parts) said is = tt
+  IsSlice-more (call.Abort upload) said is = tt
 
   -- bytes that a read gives
 
@@ -63,7 +70,8 @@ module _ (versions more : List ObjectVersion) where
 
   read-more : (handle : Option Handle) (offset count : ℕ) (bytes : List ℕ) → IsReadOf versions handle offset count bytes → IsReadOf (versions ++ more) handle offset count bytes
   read-more None offset count bytes is = is
-  read-more (Some handle) offset count bytes is = range-more handle.version (range_in offset count handle.version.size) bytes is
+  read-more (Some (Reading line version)) offset count bytes is = range-more version (range_in offset count version.size) bytes is
+  read-more (Some (Writing writer)) offset count bytes is = is
 
   data-more : (request : Request) (handle : Option Handle) (bytes : List ℕ) → IsDataFor versions request handle bytes → IsDataFor (versions ++ more) request handle bytes
   data-more (request.Read name offset count) handle bytes is = read-more handle offset count bytes is
@@ -76,6 +84,10 @@ module _ (versions more : List ObjectVersion) where
   data-more (request.MakeDir path) handle bytes is = is
   data-more (request.RemoveDir path) handle bytes is = is
   data-more (request.Unlink path) handle bytes is = is
+  data-more (request.OpenWrite name path) handle bytes is = is
+  data-more (request.OpenTruncate name path) handle bytes is = is
+  data-more (request.Write name offset content) handle bytes is = is
+  data-more (request.Sync name) handle bytes is = is
 
   data_at-more : (handles : Handles) (o : Option Standing) (bytes : List ℕ) → IsDataAt versions handles o bytes → IsDataAt (versions ++ more) handles o bytes
   data_at-more handles None bytes is = is
@@ -93,6 +105,8 @@ module _ (versions more : List ObjectVersion) where
       by_reply line (reply.Open size) is = tt
       by_reply line reply.Gone is = tt
       by_reply line (reply.Failed errno) is = tt
+      by_reply line (reply.Writing size) is = tt
+      by_reply line (reply.Wrote length) is = tt
 
   pub AreReads-more : (options : Opts) (script : List Line) (steps : List Step) → AreReads versions options script steps → AreReads (versions ++ more) options script steps
   AreReads-more options script steps reads =

@@ -4,7 +4,7 @@ ghost use Rattle.mount_model.specs.Run.{IsRun, is_among, ready};
 ghost use Rattle.mount_core.specs.Core.{state_of};
 ghost use Rattle.mp_driver.specs.declared.schedule.Schedule.TheVariants.{Oldest};
 ghost use Rattle.mp_driver.specs.Calls.{Calls};
-ghost use Rattle.mp_driver.specs.Drive.{HasFewFaults, IsDriven, IsTiedTo, ReadsOver};
+ghost use Rattle.mp_driver.specs.Drive.{HasFewFaults, IsDriven, IsTiedTo, ReadsOver, WrittenOver};
 
 use crate::held::{HeldAnswer, hold, let_go};
 use crate::schedule::Schedule;
@@ -40,7 +40,7 @@ fn call_for<S: Store, C: Clock>(
 // Runs a core to its end by the first choice at each turn: no answer waits while another call is made.
 fn drive_oldest<S: Store, C: Clock>(mut core: Core, store: &mut S, clock: &mut C) -> Core
     requires { core.steps ≡ [] }
-    ensures driven { IsDriven (S.history store.new) (S.position store.old) (S.is_alone store.old) (S.faults store.old) (S.faults store.new) core.options core.script result }
+    ensures driven { IsDriven (S.history store.new) (S.position store.old) (S.is_alone store.old) (S.is_honest store.old) (S.faults store.old) (S.faults store.new) core.options core.script result }
     ensures grows { S.position store.old ≤ S.position store.new }
     ensures faults_grow { S.faults store.old ≤ S.faults store.new }
     ensures honest { S.is_honest store.old → S.is_honest store.new }
@@ -78,7 +78,7 @@ fn drive_listed<S: Store, C: Clock>(
     numbers: &[u32],
 ) -> Result<Core, AllocError>
     requires { core.steps ≡ [] }
-    ensures driven { IfOk result (λ done. IsDriven (S.history store.new) (S.position store.old) (S.is_alone store.old) (S.faults store.old) (S.faults store.new) core.options core.script done) }
+    ensures driven { IfOk result (λ done. IsDriven (S.history store.new) (S.position store.old) (S.is_alone store.old) (S.is_honest store.old) (S.faults store.old) (S.faults store.new) core.options core.script done) }
     ensures grows { S.position store.old ≤ S.position store.new }
     ensures faults_grow { S.faults store.old ≤ S.faults store.new }
     ensures honest { S.is_honest store.old → S.is_honest store.new }
@@ -131,6 +131,10 @@ pub fn drive<S: Store, C: Clock>(
 
     // Each read gives bytes of the version that its handle opened, over the versions that the store tells at the end.
     ensures reads { IfOk result (λ done. ReadsOver (S.history store.new) core.options core.script done.steps) }
+
+    // What was written appears whole or not at all, and is there once its close or fsync has succeeded, over the
+    // history that an honest store tells at the end.
+    ensures written { S.is_honest store.old → IfOk result (λ done. WrittenOver (S.history store.new) core.options core.script (S.position store.old) done.steps) }
 
     // The record tells at most as many faults as the store's count rose by.
     ensures faults { IfOk result (λ done. HasFewFaults (S.faults store.old) (S.faults store.new) done.steps) }

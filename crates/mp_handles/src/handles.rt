@@ -4,12 +4,11 @@ ghost use Rattle.std.specs.Borrow.{sem};
 ghost use Rattle.std.specs.FinMap as map;
 ghost use Rattle.mp_types.specs.HandleName.{max_handles};
 
+use mp_types::MAX_HANDLES;
 use slab::Slab;
 use std::alloc::Global;
 use std::collections::BTreeMap;
 use std::marker::Model;
-
-const MAX_HANDLES: usize = 4096;
 
 /// Why a name can't be opened.
 #[derive(Debug, Clone, Copy, PartialEq, Eq)]

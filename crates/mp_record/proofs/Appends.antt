@@ -41,13 +41,6 @@ pub AppendsBut-more : (held : Option (List ℕ)) (text rest : List ℕ) (now : O
 AppendsBut-more held text rest now more but =
     record { front = but.front; appended = but.appended; whole = sym (append_assoc but.front rest more) ∙ ap (λ t. t ++ more) but.whole }
 
--- no rest is left
-pub Appends-all : (held : Option (List ℕ)) (text : List ℕ) (now : Option (List ℕ)) → AppendsBut held text [] now → Appends held text now
-Appends-all held text now but = subst (λ (t : List ℕ). Appends held t now) (sym (append-nil but.front) ∙ but.whole) but.appended
-
-pub AppendsBut-none : (held : Option (List ℕ)) (text : List ℕ) (now : Option (List ℕ)) → Appends held text now → AppendsBut held text [] now
-AppendsBut-none held text now all = record { front = text; appended = all; whole = append-nil text }
-
 -- after one write
 pub AppendsBut-write : (held : Option (List ℕ)) (text rest : List ℕ) (now : Option (List ℕ)) (count : ℕ) (after : Option (List ℕ)) → AppendsBut held text rest now → Writes now rest (Ok count) after → AppendsBut held text (take (length rest - count) (drop count rest)) after
 AppendsBut-write held text rest now count after but writes =
@@ -68,5 +61,18 @@ pub AppendsFront-more : (held : Option (List ℕ)) (text more whole : List ℕ) 
 AppendsFront-more held text more whole now is front =
     (front.0 ++ more, subst (λ (t : List ℕ). AppendsBut held t (front.0 ++ more) now) is (AppendsBut-more held text front.0 now more front.1))
 
-pub AppendsFront-same : (held : Option (List ℕ)) (text whole : List ℕ) (now : Option (List ℕ)) → text ≡ whole → AppendsFront held text now → AppendsFront held whole now
-AppendsFront-same held text whole now is front = (front.0, subst (λ (t : List ℕ). AppendsBut held t front.0 now) is front.1)
+-- one text is gathered behind another, and a front of what has been gathered is written
+pub AppendsBut-then : (held now after : Option (List ℕ)) (text gathered more pushed left : List ℕ) → AppendsBut held text gathered now → pushed ≡ gathered ++ more → AppendsBut now pushed left after → AppendsBut held (text ++ more) left after
+AppendsBut-then held now after text gathered more pushed left but is sent =
+    AppendsBut-rest held (text ++ more) (gathered ++ more) now left after (AppendsBut-more held text gathered now more but) (rw is at sent)
+
+pub AppendsFront-then : (held now after : Option (List ℕ)) (text gathered more pushed behind whole : List ℕ) → AppendsBut held text gathered now → pushed ≡ gathered ++ more → AppendsFront now pushed after → (text ++ more) ++ behind ≡ whole → AppendsFront held whole after
+AppendsFront-then held now after text gathered more pushed behind whole but is sent are =
+    AppendsFront-more held (text ++ more) behind whole after are
+    (AppendsFront-rest held (text ++ more) (gathered ++ more) now after (AppendsBut-more held text gathered now more but) (rw is at sent))
+
+-- what has been gathered is the rest of a text, and a front of it is written
+pub AppendsFront-sent : (held now after : Option (List ℕ)) (text gathered whole : List ℕ) → text ≡ whole → AppendsBut held text gathered now → AppendsFront now gathered after → AppendsFront held whole after
+AppendsFront-sent held now after text gathered whole is but sent =
+    let front = AppendsFront-rest held text gathered now after but sent in
+    (front.0, subst (λ (t : List ℕ). AppendsBut held t front.0 after) is front.1)

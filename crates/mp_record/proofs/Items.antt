@@ -1,40 +1,35 @@
--- The text of the items of a row, one after another.
-use Rattle.std.proofs.Common.{◌≡◌, ℕ, ◌+◌, ◌<◌, List, [], ◌∷◌, ◌++◌, Option, length, take, drop, get_or, flat_map, sym, ◌∙◌, ap, subst, append-nil}
+-- The text of the items of a list, one after another, behind a text that begins it.
+use Rattle.std.proofs.Common.{◌≡◌, ℕ, ◌+◌, ◌<◌, List, [], ◌∷◌, ◌++◌, Option, length, take, drop, get_or, flat_map, refl, sym, ◌∙◌, ap, append_assoc, append-nil}
 use Rattle.std.proofs.lemmas.List.{take_more, take-append-drop}
 use Rattle.std.proofs.lemmas.Grind.{flat_map-append}
-use Rattle.mp_record.specs.Appends.{Appends, AppendsBut, AppendsFront}
-use Rattle.mp_record.proofs.Appends.{Appends-all, AppendsBut-more, AppendsBut-none, AppendsBut-rest, AppendsFront-more, AppendsFront-rest, AppendsFront-same}
+use Rattle.mp_record.specs.Appends.{AppendsBut, AppendsFront}
+use Rattle.mp_record.proofs.Appends.{AppendsBut-then, AppendsFront-more, AppendsFront-rest, AppendsFront-then}
 
 -- one item more
-pub flat_map-take_more : {X : Type 0} (f : X → List ℕ) (xs : List X) (i : ℕ) (x : X) → i < length xs → x ≡ get_or xs i x → flat_map f (take (i + 1) xs) ≡ flat_map f (take i xs) ++ f x
-flat_map-take_more f xs i x lt is =
-    ap (flat_map f) (take_more xs i x lt) ∙ (flat_map-append f (take i xs) (get_or xs i x ∷ []) ∙ ap (λ t. flat_map f (take i xs) ++ t) (append-nil (f (get_or xs i x)) ∙ ap f (sym is)))
+text_more : {X : Type 0} (f : X → List ℕ) (begun : List ℕ) (xs : List X) (i : ℕ) (d x : X) → i < length xs → x ≡ get_or xs i d → begun ++ flat_map f (take (i + 1) xs) ≡ (begun ++ flat_map f (take i xs)) ++ f x
+text_more f begun xs i d x lt is =
+    ap (λ t. begun ++ flat_map f t) (take_more xs i d lt)
+    ∙ (ap (λ t. begun ++ t) (flat_map-append f (take i xs) (get_or xs i d ∷ []) ∙ ap (λ t. flat_map f (take i xs) ++ t) (append-nil (f (get_or xs i d)) ∙ ap f (sym is)))
+    ∙ sym (append_assoc begun (flat_map f (take i xs)) (f x)))
 
 -- the items up to a place, and those from there on
-pub flat_map-take-drop : {X : Type 0} (f : X → List ℕ) (i : ℕ) (xs : List X) → flat_map f (take i xs) ++ flat_map f (drop i xs) ≡ flat_map f xs
-flat_map-take-drop f i xs = sym (flat_map-append f (take i xs) (drop i xs)) ∙ ap (flat_map f) (take-append-drop i xs)
+text_rest : {X : Type 0} (f : X → List ℕ) (begun : List ℕ) (xs : List X) (i : ℕ) → (begun ++ flat_map f (take i xs)) ++ flat_map f (drop i xs) ≡ begun ++ flat_map f xs
+text_rest f begun xs i =
+    append_assoc begun (flat_map f (take i xs)) (flat_map f (drop i xs))
+    ∙ ap (λ t. begun ++ t) (sym (flat_map-append f (take i xs) (drop i xs)) ∙ ap (flat_map f) (take-append-drop i xs))
 
--- what one item more is to gather
-pub gathered_more : {X : Type 0} (f : X → List ℕ) (xs : List X) (i : ℕ) (x : X) (held now : Option (List ℕ)) (gathered : List ℕ) → i < length xs → x ≡ get_or xs i x → AppendsBut held (flat_map f (take i xs)) gathered now → AppendsBut held (flat_map f (take (i + 1) xs)) (gathered ++ f x) now
-gathered_more f xs i x held now gathered lt is but =
-    rw (flat_map-take_more f xs i x lt is) (AppendsBut-more held (flat_map f (take i xs)) gathered now (f x) but)
+-- an item's text is gathered, and a front of what has been gathered is written
+pub item_rest : {X : Type 0} (f : X → List ℕ) (begun : List ℕ) (xs : List X) (i : ℕ) (d x : X) (held now : Option (List ℕ)) (gathered left : List ℕ) (after : Option (List ℕ)) → i < length xs → x ≡ get_or xs i d → AppendsBut held (begun ++ flat_map f (take i xs)) gathered now → AppendsBut now (gathered ++ f x) left after → AppendsBut held (begun ++ flat_map f (take (i + 1) xs)) left after
+item_rest f begun xs i d x held now gathered left after lt is but sent =
+    rw (text_more f begun xs i d x lt is) (AppendsBut-then held now after (begun ++ flat_map f (take i xs)) gathered (f x) (gathered ++ f x) left but refl sent)
 
--- its text is gathered, and a front of what has been gathered is written
-pub step_rest : {X : Type 0} (f : X → List ℕ) (xs : List X) (i : ℕ) (x : X) (held now : Option (List ℕ)) (gathered left : List ℕ) (after : Option (List ℕ)) → i < length xs → x ≡ get_or xs i x → AppendsBut held (flat_map f (take i xs)) gathered now → AppendsBut now (gathered ++ f x) left after → AppendsBut held (flat_map f (take (i + 1) xs)) left after
-step_rest f xs i x held now gathered left after lt is but sent =
-    AppendsBut-rest held (flat_map f (take (i + 1) xs)) (gathered ++ f x) now left after (gathered_more f xs i x held now gathered lt is but) sent
+pub item_front : {X : Type 0} (f : X → List ℕ) (begun : List ℕ) (xs : List X) (i : ℕ) (d x : X) (held now : Option (List ℕ)) (gathered : List ℕ) (after : Option (List ℕ)) → i < length xs → x ≡ get_or xs i d → AppendsBut held (begun ++ flat_map f (take i xs)) gathered now → AppendsFront now (gathered ++ f x) after → AppendsFront held (begun ++ flat_map f xs) after
+item_front f begun xs i d x held now gathered after lt is but front =
+    AppendsFront-then held now after (begun ++ flat_map f (take i xs)) gathered (f x) (gathered ++ f x) (flat_map f (drop (i + 1) xs)) (begun ++ flat_map f xs) but refl front
+    (ap (λ t. t ++ flat_map f (drop (i + 1) xs)) (sym (text_more f begun xs i d x lt is)) ∙ text_rest f begun xs (i + 1))
 
 -- what has been written is a front of all
-pub items_front : {X : Type 0} (f : X → List ℕ) (xs : List X) (i : ℕ) (held now : Option (List ℕ)) (gathered : List ℕ) (after : Option (List ℕ)) → AppendsBut held (flat_map f (take i xs)) gathered now → AppendsFront now gathered after → AppendsFront held (flat_map f xs) after
-items_front f xs i held now gathered after but front =
-    AppendsFront-more held (flat_map f (take i xs)) (flat_map f (drop i xs)) (flat_map f xs) after (flat_map-take-drop f i xs)
-    (AppendsFront-rest held (flat_map f (take i xs)) gathered now after but front)
-
--- all is gathered, and then written
-pub written_all : (held now : Option (List ℕ)) (items gathered text : List ℕ) (after : Option (List ℕ)) → items ≡ text → AppendsBut held items gathered now → Appends now gathered after → Appends held text after
-written_all held now items gathered text after is but sent =
-    subst (λ (t : List ℕ). Appends held t after) is (Appends-all held items after (AppendsBut-rest held items gathered now [] after but (AppendsBut-none now gathered after sent)))
-
-pub written_front : (held now : Option (List ℕ)) (items gathered text : List ℕ) (after : Option (List ℕ)) → items ≡ text → AppendsBut held items gathered now → AppendsFront now gathered after → AppendsFront held text after
-written_front held now items gathered text after is but sent =
-    AppendsFront-same held items text after is (AppendsFront-rest held items gathered now after but sent)
+pub items_front : {X : Type 0} (f : X → List ℕ) (begun : List ℕ) (xs : List X) (i : ℕ) (held now : Option (List ℕ)) (gathered : List ℕ) (after : Option (List ℕ)) → AppendsBut held (begun ++ flat_map f (take i xs)) gathered now → AppendsFront now gathered after → AppendsFront held (begun ++ flat_map f xs) after
+items_front f begun xs i held now gathered after but front =
+    AppendsFront-more held (begun ++ flat_map f (take i xs)) (flat_map f (drop i xs)) (begun ++ flat_map f xs) after (text_rest f begun xs i)
+    (AppendsFront-rest held (begun ++ flat_map f (take i xs)) gathered now after but front)

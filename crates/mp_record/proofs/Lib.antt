@@ -3,3 +3,4 @@ pub mod Escaped
 pub mod Items
 pub mod RecordText
 pub mod Replies
+pub mod Rows

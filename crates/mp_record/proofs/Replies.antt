@@ -7,7 +7,7 @@ use Rattle.mount_model.specs.declared.event.Answered.{Answered}
 use Rattle.mount_model.specs.RecordText.{said_text, reply_text}
 use Rattle.mp_record.specs.Appends.{AppendsBut, AppendsFront}
 use Rattle.mp_record.specs.ItemText.{data_in, said_start, reply_start}
-use Rattle.mp_record.proofs.Appends.{AppendsBut-more, AppendsBut-rest, AppendsFront-more, AppendsFront-rest}
+use Rattle.mp_record.proofs.Appends.{AppendsBut-more, AppendsFront-more}
 
 -- ---- digits of one piece after another
 
@@ -27,16 +27,6 @@ piece_more text all piece rest whole are is =
 pub last_piece : (text all whole : List ℕ) → all ≡ [] → text ++ encode_lower all ≡ whole → text ≡ whole
 last_piece text all whole none is = sym (append-nil text) ∙ (ap (λ t. text ++ t) (sym digits-none ∙ ap encode_lower (sym none)) ∙ is)
 
--- a piece is gathered, and a front of what has been gathered is written
-pub piece_rest : (held now after : Option (List ℕ)) (text gathered more pushed left : List ℕ) → AppendsBut held text gathered now → pushed ≡ gathered ++ more → AppendsBut now pushed left after → AppendsBut held (text ++ more) left after
-piece_rest held now after text gathered more pushed left but is sent =
-    AppendsBut-rest held (text ++ more) (gathered ++ more) now left after (AppendsBut-more held text gathered now more but) (rw is at sent)
-
-pub piece_front : (held now after : Option (List ℕ)) (text gathered more pushed behind whole : List ℕ) → AppendsBut held text gathered now → pushed ≡ gathered ++ more → AppendsFront now pushed after → (text ++ more) ++ behind ≡ whole → AppendsFront held whole after
-piece_front held now after text gathered more pushed behind whole but is sent are =
-    AppendsFront-more held (text ++ more) behind whole after are
-    (AppendsFront-rest held (text ++ more) (gathered ++ more) now after (AppendsBut-more held text gathered now more but) (rw is at sent))
-
 -- ---- a reply
 
 pub said_whole : (said : Reply) → said_start said ++ encode_lower (data_in said) ≡ said_text said
@@ -45,7 +35,9 @@ said_whole (reply.Made etag) = append-nil _
 said_whole reply.Success = refl
 said_whole reply.Directory = refl
 said_whole (reply.File size) = append-nil _
+said_whole (reply.Writing size) = append-nil _
 said_whole (reply.Open size) = append-nil _
+said_whole (reply.Wrote length) = append-nil _
 said_whole (reply.Data bytes) = refl
 said_whole reply.Gone = refl
 said_whole (reply.Failed errno) = append-nil _

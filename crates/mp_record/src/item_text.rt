@@ -1,5 +1,5 @@
 ghost use Rattle.std.specs.Prelude.{◌≡◌, ◌++◌, codes, decimal, OnOk};
-ghost use Rattle.mount_model.specs.RecordText.{answer_text, event_text, owner_text, escaped, call_text, ask_text};
+ghost use Rattle.mount_model.specs.RecordText.{answer_text, event_text, drop_text, owner_text, escaped, call_text, ask_text};
 
 use crate::escape::push_escaped;
 use bucket_model::Brief;
@@ -45,6 +45,12 @@ fn push_answer(out: &mut Vec<u8>, answer: &Brief) -> Result<(), AllocError>
         Brief::Changed => out.extend_from_slice(b"changed"),
         Brief::Gone => out.extend_from_slice(b"gone"),
         Brief::Made(etag) => push_made(out, etag),
+        Brief::Upload(upload) => {
+            out.extend_from_slice(b"upload ")?;
+            push_number(out, *upload)
+        }
+        Brief::Stored => out.extend_from_slice(b"stored"),
+        Brief::NoUpload => out.extend_from_slice(b"noupload"),
         Brief::Fault => out.extend_from_slice(b"fault"),
         Brief::NoMemory => out.extend_from_slice(b"nomemory"),
     }
@@ -98,6 +104,14 @@ pub fn push_event(out: &mut Vec<u8>, event: &Event) -> Result<(), AllocError>
     }
 }
 
+pub fn push_drop(out: &mut Vec<u8>, job: u64) -> Result<(), AllocError>
+    ensures { OnOk result (out.new.items ≡ out.old.items ++ drop_text job) }
+{
+    out.extend_from_slice(b"X ")?;
+    push_number(out, job)?;
+    out.extend_from_slice(b"\n")
+}
+
 fn push_owner(out: &mut Vec<u8>, owner: Owner) -> Result<(), AllocError>
     ensures { OnOk result (out.new.items ≡ out.old.items ++ owner_text owner) }
 {
@@ -108,6 +122,10 @@ fn push_owner(out: &mut Vec<u8>, owner: Owner) -> Result<(), AllocError>
         }
         Owner::Stream(number) => {
             out.extend_from_slice(b"S")?;
+            push_number(out, u64::from(number))
+        }
+        Owner::Writer(number) => {
+            out.extend_from_slice(b"W")?;
             push_number(out, u64::from(number))
         }
     }
@@ -138,6 +156,32 @@ fn push_get(out: &mut Vec<u8>, key: &Key, etag: &ETag, from: u64, to: u64) -> Re
     push_range(out, from, to)
 }
 
+fn push_part(
+    out: &mut Vec<u8>,
+    upload: u64,
+    number: u32,
+    from: u64,
+    to: u64,
+) -> Result<(), AllocError>
+    ensures { OnOk result (out.new.items ≡ out.old.items ++ call_text (AskedCall.Part upload number from to)) }
+{
+    out.extend_from_slice(b"part ")?;
+    push_number(out, upload)?;
+    out.extend_from_slice(b" ")?;
+    push_number(out, u64::from(number))?;
+    out.extend_from_slice(b" ")?;
+    push_range(out, from, to)
+}
+
+fn push_complete(out: &mut Vec<u8>, upload: u64, parts: u32) -> Result<(), AllocError>
+    ensures { OnOk result (out.new.items ≡ out.old.items ++ call_text (AskedCall.Complete upload parts)) }
+{
+    out.extend_from_slice(b"complete ")?;
+    push_number(out, upload)?;
+    out.extend_from_slice(b" ")?;
+    push_number(out, u64::from(parts))
+}
+
 fn push_call(out: &mut Vec<u8>, call: &AskedCall) -> Result<(), AllocError>
     ensures { OnOk result (out.new.items ≡ out.old.items ++ call_text call.now) }
 {
@@ -165,6 +209,21 @@ fn push_call(out: &mut Vec<u8>, call: &AskedCall) -> Result<(), AllocError>
             push_key(out, key)?;
             out.extend_from_slice(b" ")?;
             push_number(out, *length)
+        }
+        AskedCall::Create { key } => {
+            out.extend_from_slice(b"create ")?;
+            push_key(out, key)
+        }
+        AskedCall::Part {
+            upload,
+            number,
+            from,
+            to,
+        } => push_part(out, *upload, *number, *from, *to),
+        AskedCall::Complete { upload, parts } => push_complete(out, *upload, *parts),
+        AskedCall::Abort { upload } => {
+            out.extend_from_slice(b"abort ")?;
+            push_number(out, *upload)
         }
     }
 }

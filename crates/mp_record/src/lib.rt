@@ -5,8 +5,10 @@
 mod digits;
 mod escape;
 mod item_text;
+mod kind;
 mod print;
 mod reply_text;
+mod steps;
 mod write;
 
 pub use print::{PrintFault, print_record};

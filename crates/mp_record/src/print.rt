@@ -1,14 +1,17 @@
 ghost use Rattle.mp_types.specs.Count.{HasRisen};
-ghost use Rattle.std.specs.Prelude.{◌≡◌, ◌≤◌, [], ◌++◌, flat_map, OnOk, IsErrOf};
+ghost use Rattle.std.specs.Prelude.{◌≡◌, ◌≤◌, [], ◌++◌, OnOk, IsErrOf};
 ghost use Rattle.hex.specs.Hex.{encode_lower};
+ghost use Rattle.mount_model.specs.Step.{steps_of, IsRow};
 ghost use Rattle.mount_model.specs.RecordText.{reply_text, record_text};
 ghost use Rattle.mp_record.specs.Appends.{Appends, AppendsFront, AppendsBut};
-ghost use Rattle.mp_record.specs.ItemText.{item_text};
+ghost use Rattle.mp_record.specs.ItemText.{text_as, text_of_kind, items_text};
 ghost use Rattle.mp_record.specs.declared.print.PrintFault.TheVariants as print_fault;
 
 use crate::digits::{PIECE, push_digits};
-use crate::item_text::{push_ask, push_event};
+use crate::item_text::{push_ask, push_drop, push_event};
+use crate::kind::{KINDS, Kind};
 use crate::reply_text::{data_of, push_reply_start};
+use crate::steps::split_step;
 use crate::write::write_all;
 use mount_model::{Answered, Item, Record};
 use mp_io::Sink;
@@ -98,35 +101,79 @@ fn print_reply<K: Sink>(
     Ok(gathered.extend_from_slice(b"\n")?)
 }
 
-/// Gathers an item's text. What is left in `gathered` is the rest of the text.
-fn print_item<K: Sink>(gathered: &mut Vec<u8>, item: &Item, sink: &mut K) -> Result<(), PrintFault>
-    ensures rest { OnOk result (AppendsBut (K.held sink.old) (gathered.old.items ++ item_text item.now) gathered.new.items (K.held sink.new)) }
-    ensures front { AppendsFront (K.held sink.old) (gathered.old.items ++ item_text item.now) (K.held sink.new) }
+/// Gathers an item's text where it is of this kind. What is left in `gathered` is the rest of the text.
+fn print_item<K: Sink>(
+    gathered: &mut Vec<u8>,
+    kind: Kind,
+    item: &Item,
+    sink: &mut K,
+) -> Result<(), PrintFault>
+    ensures rest { OnOk result (AppendsBut (K.held sink.old) (gathered.old.items ++ text_as kind item.now) gathered.new.items (K.held sink.new)) }
+    ensures front { AppendsFront (K.held sink.old) (gathered.old.items ++ text_as kind item.now) (K.held sink.new) }
     ensures faults_grow { K.faults sink.old ≤ K.faults sink.new }
     ensures failed { IsErrOf result PrintFault.Sink → HasRisen (K.faults sink.old) (K.faults sink.new) }
 {
-    match item {
-        Item::Event(event) => Ok(push_event(gathered, event)?),
-        Item::Ask(ask) => Ok(push_ask(gathered, ask)?),
-        Item::Reply(answered) => print_reply(gathered, answered, sink),
+    match (kind, item) {
+        (Kind::Event, Item::Event(event)) => Ok(push_event(gathered, event)?),
+        (Kind::Drop, Item::Drop(job)) => Ok(push_drop(gathered, *job)?),
+        (Kind::Ask, Item::Ask(ask)) => Ok(push_ask(gathered, ask)?),
+        (Kind::Reply, Item::Reply(answered)) => print_reply(gathered, answered, sink),
+        _ => Ok(()),
     }
 }
 
-/// What is left in `gathered` is the rest of the text.
-fn print_items<K: Sink>(
+/// Gathers the text of the items of one kind. What is left in `gathered` is the rest of the text.
+fn print_kind<K: Sink>(
     gathered: &mut Vec<u8>,
+    kind: Kind,
     items: &[Item],
     sink: &mut K,
 ) -> Result<(), PrintFault>
-    requires { gathered.old.items ≡ [] }
-    ensures rest { OnOk result (AppendsBut (K.held sink.old) (flat_map item_text items.now) gathered.new.items (K.held sink.new)) }
-    ensures front { AppendsFront (K.held sink.old) (flat_map item_text items.now) (K.held sink.new) }
+    ensures rest { OnOk result (AppendsBut (K.held sink.old) (gathered.old.items ++ text_of_kind items.now kind) gathered.new.items (K.held sink.new)) }
+    ensures front { AppendsFront (K.held sink.old) (gathered.old.items ++ text_of_kind items.now kind) (K.held sink.new) }
     ensures faults_grow { K.faults sink.old ≤ K.faults sink.new }
     ensures failed { IsErrOf result PrintFault.Sink → HasRisen (K.faults sink.old) (K.faults sink.new) }
 {
     for item in items {
-        print_item(gathered, item, sink)?;
+        print_item(gathered, kind, item, sink)?;
         send_full(gathered, sink)?;
+    }
+    Ok(())
+}
+
+/// Gathers the text of a step's items. What is left in `gathered` is the rest of the text.
+fn print_step<K: Sink>(
+    gathered: &mut Vec<u8>,
+    items: &[Item],
+    sink: &mut K,
+) -> Result<(), PrintFault>
+    ensures rest { OnOk result (AppendsBut (K.held sink.old) (gathered.old.items ++ items_text items.now) gathered.new.items (K.held sink.new)) }
+    ensures front { AppendsFront (K.held sink.old) (gathered.old.items ++ items_text items.now) (K.held sink.new) }
+    ensures faults_grow { K.faults sink.old ≤ K.faults sink.new }
+    ensures failed { IsErrOf result PrintFault.Sink → HasRisen (K.faults sink.old) (K.faults sink.new) }
+{
+    for kind in KINDS {
+        print_kind(gathered, kind, items, sink)?;
+    }
+    Ok(())
+}
+
+/// Gathers the text of a row's steps. What is left in `gathered` is the rest of the text.
+fn print_steps<K: Sink>(
+    gathered: &mut Vec<u8>,
+    items: &[Item],
+    sink: &mut K,
+) -> Result<(), PrintFault>
+    requires { IsRow items.now }
+    ensures rest { OnOk result (AppendsBut (K.held sink.old) (gathered.old.items ++ record_text (steps_of items.now)) gathered.new.items (K.held sink.new)) }
+    ensures front { AppendsFront (K.held sink.old) (gathered.old.items ++ record_text (steps_of items.now)) (K.held sink.new) }
+    ensures faults_grow { K.faults sink.old ≤ K.faults sink.new }
+    ensures failed { IsErrOf result PrintFault.Sink → HasRisen (K.faults sink.old) (K.faults sink.new) }
+{
+    let mut rest = items;
+    while let Some((step, behind)) = split_step(rest) {
+        print_step(gathered, step, sink)?;
+        rest = behind;
     }
     Ok(())
 }
@@ -139,7 +186,7 @@ pub fn print_record<K: Sink>(alloc: Global, record: &Record, sink: &mut K) -> Re
     ensures failed { IsErrOf result PrintFault.Sink → HasRisen (K.faults sink.old) (K.faults sink.new) }
 {
     let mut gathered = Vec::new(alloc);
-    print_items(&mut gathered, record.items(), sink)?;
+    print_steps(&mut gathered, record.items(), sink)?;
     send(&mut gathered, sink)
 }
 
@@ -150,7 +197,7 @@ mod tests {
     use bytes::Bytes;
     use mount_model::{Ask, AskedCall, Event, Owner, Reply};
     use mp_io::MemSink;
-    use mp_types::{ETag, Key};
+    use mp_types::{ETag, Errno, Key};
     use std::test::Fail;
 
     #[test]
@@ -254,6 +301,99 @@ mod tests {
         assert_eq!(rt;
             sink.held(),
             b"D 2 3 found v1 4\nA 3 S7 get a%20b v1 1 4\nR 7 open 4\nD 3 4 bytes 3\nA 4 L9 delete a%20b\nR 8 data x00abff\nD 4 5 gone\nR 9 gone\nD 5 6 changed\nR 10 data x\n".as_slice()
+        );
+        Ok(())
+    }
+
+    #[test]
+    fn prints_what_a_step_drops_before_what_it_asks(rt: HostRuntime) -> Result<(), Fail> {
+        let mut record = Record::new(rt.alloc());
+        record.make_room(7)?;
+        record.event(Event::Done {
+            job: 2,
+            position: 1,
+            answer: Brief::Fault,
+        });
+        record.reply(Answered {
+            line: 4,
+            reply: Reply::Failed(Errno::Eio),
+        });
+        record.ask(Ask {
+            job: 5,
+            owner: Owner::Writer(2),
+            call: AskedCall::Abort { upload: 7 },
+        });
+        record.drop_job(3);
+        record.drop_job(4);
+        record.event(Event::Begin { line: 6, time: 0 });
+        record.drop_job(5);
+        let mut sink = MemSink::new(rt.alloc(), 100, 7, Vec::new(rt.alloc()))?;
+        assert_eq!(rt; print_record(rt.alloc(), &record, &mut sink), Ok(()));
+        assert_eq!(rt;
+            sink.held(),
+            b"D 2 1 fault\nX 3\nX 4\nA 5 W2 abort 7\nR 4 err EIO\nB 6 0\nX 5\n".as_slice()
+        );
+        Ok(())
+    }
+
+    #[test]
+    fn prints_an_upload(rt: HostRuntime) -> Result<(), Fail> {
+        let mut record = Record::new(rt.alloc());
+        record.make_room(9)?;
+        record.event(Event::Begin { line: 1, time: 0 });
+        record.ask(Ask {
+            job: 1,
+            owner: Owner::Writer(1),
+            call: AskedCall::Create {
+                key: Key::parse(rt.alloc(), "a b")?,
+            },
+        });
+        record.reply(Answered {
+            line: 1,
+            reply: Reply::Wrote { length: 9 },
+        });
+        record.event(Event::Done {
+            job: 1,
+            position: 0,
+            answer: Brief::Upload(7),
+        });
+        record.ask(Ask {
+            job: 2,
+            owner: Owner::Writer(1),
+            call: AskedCall::Part {
+                upload: 7,
+                number: 2,
+                from: 5,
+                to: 9,
+            },
+        });
+        record.event(Event::Done {
+            job: 2,
+            position: 1,
+            answer: Brief::Stored,
+        });
+        record.ask(Ask {
+            job: 3,
+            owner: Owner::Writer(1),
+            call: AskedCall::Complete {
+                upload: 7,
+                parts: 2,
+            },
+        });
+        record.event(Event::Done {
+            job: 3,
+            position: 2,
+            answer: Brief::NoUpload,
+        });
+        record.reply(Answered {
+            line: 3,
+            reply: Reply::Writing { size: 9 },
+        });
+        let mut sink = MemSink::new(rt.alloc(), 200, 7, Vec::new(rt.alloc()))?;
+        assert_eq!(rt; print_record(rt.alloc(), &record, &mut sink), Ok(()));
+        assert_eq!(rt;
+            sink.held(),
+            b"B 1 0\nA 1 W1 create a%20b\nR 1 wrote 9\nD 1 0 upload 7\nA 2 W1 part 7 2 5 9\nD 2 1 stored\nA 3 W1 complete 7 2\nD 3 2 noupload\nR 3 writing 9\n".as_slice()
         );
         Ok(())
     }

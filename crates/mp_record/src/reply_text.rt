@@ -39,7 +39,9 @@ pub fn data_of(reply: &Reply) -> &[u8]
         | Reply::Success
         | Reply::Directory
         | Reply::File { .. }
+        | Reply::Writing { .. }
         | Reply::Open { .. }
+        | Reply::Wrote { .. }
         | Reply::Gone
         | Reply::Failed(_) => &[],
     }
@@ -56,9 +58,17 @@ fn push_said_start(out: &mut Vec<u8>, reply: &Reply) -> Result<(), AllocError>
             out.extend_from_slice(b"file ")?;
             push_number(out, *size)
         }
+        Reply::Writing { size } => {
+            out.extend_from_slice(b"writing ")?;
+            push_number(out, *size)
+        }
         Reply::Open { size } => {
             out.extend_from_slice(b"open ")?;
             push_number(out, *size)
+        }
+        Reply::Wrote { length } => {
+            out.extend_from_slice(b"wrote ")?;
+            push_number(out, *length)
         }
         Reply::Data(_) => out.extend_from_slice(b"data x"),
         Reply::Gone => out.extend_from_slice(b"gone"),

@@ -9,6 +9,6 @@ use Rattle.mp_rules.specs.declared.entry.Kind.TheVariants.{RemoteDir, LocalDir, 
 abbrev pub kind_of : Bool → Local → Option ℕ → Kind
 kind_of true local head = RemoteDir
 kind_of false Dir head = LocalDir
-kind_of false File head = LocalFile
+kind_of false (File written) head = LocalFile
 kind_of false NoLocal (Some size) = RemoteFile
 kind_of false NoLocal None = Nothing

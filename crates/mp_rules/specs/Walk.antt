@@ -6,9 +6,9 @@ use Rattle.mp_types.specs.declared.errno.Errno.{Errno}
 use Rattle.mp_types.specs.declared.errno.Errno.TheVariants.{Enoent, Enotdir}
 use Rattle.mp_types.specs.Path.{slash}
 use Rattle.mp_rules.specs.declared.entry.Entry.{Entry}
-use Rattle.mp_rules.specs.declared.entry.Entry.TheVariants.{RemoteDir, LocalDir, File, Nothing}
+use Rattle.mp_rules.specs.declared.entry.Entry.TheVariants.{RemoteDir, LocalDir, LocalFile, File, Nothing}
 use Rattle.mp_rules.specs.declared.entry.Local.{Local}
-use Rattle.mp_rules.specs.declared.entry.Local.TheVariants.{Dir}
+use Rattle.mp_rules.specs.declared.entry.Local.TheVariants as local
 use Rattle.mp_rules.specs.declared.facts.Question.{Question}
 use Rattle.mp_rules.specs.declared.facts.Question.TheVariants.{Head, Probe}
 use Rattle.mp_rules.specs.declared.facts.Fact.{Fact}
@@ -52,30 +52,32 @@ by_head key None = Need (Head key)
 by_head key (Some (Found etag size)) = Is (File etag size)
 by_head key (Some fact) = Is Nothing
 
--- no key lies below: what is local hides a file of the bucket. No file is local yet.
+-- no key lies below: what is local hides a file of the bucket
 abbrev pub by_local : List ℕ → Local → Option Fact → Decision
-by_local key Dir head = Is LocalDir
-by_local key local head = by_head key head
+by_local key local.Dir head = Is LocalDir
+by_local key (local.File size) head = Is (LocalFile size)
+by_local key local.None head = by_head key head
 
 -- first whether keys lie below, since a directory of the bucket hides all else of its name
 abbrev pub by_probe : List ℕ → Option Fact → Local → Option Fact → Decision
-by_probe key None local head = Need (Probe key)
-by_probe key (Some Yes) local head = Is RemoteDir
-by_probe key (Some fact) local head = by_local key local head
+by_probe key None name head = Need (Probe key)
+by_probe key (Some Yes) name head = Is RemoteDir
+by_probe key (Some fact) name head = by_local key name head
 
 abbrev pub entry_at : (Question → Option Fact) → (List ℕ → Local) → List ℕ → Decision
-entry_at facts local key = by_probe key (facts (Probe key)) (local key) (facts (Head key))
+entry_at facts names key = by_probe key (facts (Probe key)) (names key) (facts (Head key))
 
 -- a proper prefix has to be a directory
 abbrev pub below : Decision → Decision → Decision
 below (Need question) rest = Need question
 below (Is RemoteDir) rest = rest
 below (Is LocalDir) rest = rest
+below (Is (LocalFile size)) rest = Refused Enotdir
 below (Is (File etag size)) rest = Refused Enotdir
 below (Is Nothing) rest = Refused Enoent
 below (Refused errno) rest = Refused errno
 
 -- the walk from the left: the path of this key, and then the names below it
 abbrev pub walk : (Question → Option Fact) → (List ℕ → Local) → List ℕ → List (List ℕ) → Decision
-walk facts local key [] = entry_at facts local key
-walk facts local key (name ∷ names) = below (entry_at facts local key) (walk facts local (key ++ slash ∷ name) names)
+walk facts names key [] = entry_at facts names key
+walk facts names key (name ∷ more) = below (entry_at facts names key) (walk facts names (key ++ slash ∷ name) more)

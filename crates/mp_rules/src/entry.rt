@@ -8,7 +8,8 @@ use mp_types::ETag;
 pub enum Local {
     None,
     Dir,
-    File,
+    /// A file that is being written, with how many bytes it has.
+    File { size: u64 },
 }
 
 /// What stands at a name. Of a file, remote means that it is an object.
@@ -28,6 +29,8 @@ pub enum Entry {
     RemoteDir,
     /// It was made here, or a name of the mount's own lies below it.
     LocalDir,
+    /// A file that is being written, with how many bytes it has.
+    LocalFile { size: u64 },
     /// An object of this ETag and this many bytes, with no key below it.
     File { etag: ETag, size: u64 },
     Nothing,
@@ -43,7 +46,7 @@ pub fn entry_of(probe: bool, local: Local, head: Option<u64>) -> Kind
     }
     match local {
         Local::Dir => Kind::LocalDir,
-        Local::File => Kind::LocalFile,
+        Local::File { .. } => Kind::LocalFile,
         Local::None => match head {
             Some(_) => Kind::RemoteFile,
             None => Kind::Nothing,

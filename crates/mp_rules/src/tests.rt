@@ -47,9 +47,19 @@ fn keys_lie_below_directories(rt: HostRuntime) -> Result<(), Fail> {
 #[test]
 fn the_remote_directory_hides_all_else(rt: HostRuntime) -> Result<(), Fail> {
     assert_eq!(rt; entry_of(true, Local::None, None), Kind::RemoteDir);
-    assert_eq!(rt; entry_of(true, Local::File, Some(1)), Kind::RemoteDir);
+    assert_eq!(rt;
+        entry_of(true, Local::File { size: 2 }, Some(1)),
+        Kind::RemoteDir
+    );
     assert_eq!(rt; entry_of(false, Local::Dir, Some(1)), Kind::LocalDir);
-    assert_eq!(rt; entry_of(false, Local::File, Some(1)), Kind::LocalFile);
+    assert_eq!(rt;
+        entry_of(false, Local::File { size: 2 }, Some(1)),
+        Kind::LocalFile
+    );
+    assert_eq!(rt;
+        entry_of(false, Local::File { size: 0 }, None),
+        Kind::LocalFile
+    );
     assert_eq!(rt; entry_of(false, Local::None, Some(1)), Kind::RemoteFile);
     assert_eq!(rt; entry_of(false, Local::None, None), Kind::Nothing);
     Ok(())

@@ -3,9 +3,12 @@ use Rattle.std.specs.Prelude.{ℕ, List, Bool, ◌++◌, ◌&&◌, ◌==◌, nat
 use Rattle.std.specs.List.{list_any, slice_split}
 use Rattle.mount_model.specs.declared.fault.ScriptCause.{ScriptCause}
 use Rattle.mount_model.specs.declared.request.Request.{Request}
-use Rattle.mount_model.specs.ScriptText.{is_number, number_of, await_of, put_of, delete_of, stat_of, open_of, read_of, close_of, make_of, remove_of, unlink_of}
+use Rattle.mount_model.specs.declared.request.Request.TheVariants as request
+use Rattle.mount_model.specs.ScriptText.{is_number, number_of, await_of, put_of, delete_of, stat_of, open_of, read_of, write_of, handle_only, make_of, remove_of, unlink_of}
+use Rattle.mp_script.specs.declared.request.Access.{Access}
+use Rattle.mp_script.specs.declared.request.Access.TheVariants as access
 use Rattle.mp_script.specs.declared.request.Verb.{Verb}
-use Rattle.mp_script.specs.declared.request.Verb.TheVariants.{Await, Put, Delete, Stat, OpenRead, Read, Close, MakeDir, RemoveDir, Unlink}
+use Rattle.mp_script.specs.declared.request.Verb.TheVariants.{Await, Put, Delete, Stat, Open, Read, Write, Sync, Close, MakeDir, RemoveDir, Unlink}
 
 abbrev pub has : ℕ → List ℕ → Bool
 has separator text = list_any (λ byte. byte == separator) text
@@ -29,15 +32,23 @@ abbrev pub put_in_front : List ℕ → Result (List ℕ) ScriptCause → Result 
 put_in_front front (Ok bytes) = Ok (front ++ bytes)
 put_in_front front (Err why) = Err why
 
+-- the open of a file, by how it is opened
+abbrev pub opened : Access → ℕ → List ℕ → Request
+opened access.Read = request.OpenRead
+opened access.Write = request.OpenWrite
+opened access.Truncate = request.OpenTruncate
+
 -- the request of a verb, with the words behind it
 abbrev pub verb_request : Verb → List (List ℕ) → Result Request ScriptCause
 verb_request Await words = await_of words
 verb_request Put words = put_of words
 verb_request Delete words = delete_of words
 verb_request Stat words = stat_of words
-verb_request OpenRead words = open_of words
+verb_request (Open how) words = open_of (opened how) words
 verb_request Read words = read_of words
-verb_request Close words = close_of words
+verb_request Write words = write_of words
+verb_request Sync words = handle_only request.Sync words
+verb_request Close words = handle_only request.Close words
 verb_request MakeDir words = make_of words
 verb_request RemoveDir words = remove_of words
 verb_request Unlink words = unlink_of words

@@ -1,8 +1,8 @@
-ghost use Rattle.std.specs.Prelude.{◌≡◌, List, ℕ, [], Err, MatchResult};
+ghost use Rattle.std.specs.Prelude.{◌≡◌, List, ℕ, [], Ok, Err, MatchResult};
 ghost use Rattle.mount_model.specs.ScriptText as script;
-ghost use Rattle.mount_model.specs.ScriptText.{change_of, asked_by_process, request_of, put_of, delete_of, path_words, stat_of, open_of, read_of, close_of, make_of, remove_of, unlink_of, asked_of};
+ghost use Rattle.mount_model.specs.ScriptText.{change_of, asked_by_process, request_of, put_of, delete_of, path_words, stat_of, open_of, read_of, write_of, handle_only, make_of, remove_of, unlink_of, asked_of};
 ghost use Rattle.mp_script.specs.Reads.{Gives, asked};
-ghost use Rattle.mp_script.specs.Words.{words_of, verb_request};
+ghost use Rattle.mp_script.specs.Words.{words_of, opened, verb_request};
 
 use crate::content::content;
 use crate::cut::{cut, has_empty_word, one_part, three_parts, two_parts};
@@ -12,6 +12,14 @@ use mount_model::{Request, ScriptCause};
 use mp_types::Text;
 use std::alloc::Global;
 
+/// How a file is opened.
+#[derive(Clone, Copy, Debug, PartialEq, Eq)]
+pub enum Access {
+    Read,
+    Write,
+    Truncate,
+}
+
 /// The verbs of the script.
 #[derive(Clone, Copy, Debug, PartialEq, Eq)]
 pub enum Verb {
@@ -19,8 +27,10 @@ pub enum Verb {
     Put,
     Delete,
     Stat,
-    OpenRead,
+    Open(Access),
     Read,
+    Write,
+    Sync,
     Close,
     MakeDir,
     RemoveDir,
@@ -48,10 +58,22 @@ fn process_verb(word: &[u8]) -> Result<Verb, ScriptCause>
         return Ok(Verb::Stat);
     }
     if word == b"openr".as_slice() {
-        return Ok(Verb::OpenRead);
+        return Ok(Verb::Open(Access::Read));
+    }
+    if word == b"openw".as_slice() {
+        return Ok(Verb::Open(Access::Write));
+    }
+    if word == b"opent".as_slice() {
+        return Ok(Verb::Open(Access::Truncate));
     }
     if word == b"read".as_slice() {
         return Ok(Verb::Read);
+    }
+    if word == b"write".as_slice() {
+        return Ok(Verb::Write);
+    }
+    if word == b"fsync".as_slice() {
+        return Ok(Verb::Sync);
     }
     if word == b"close".as_slice() {
         return Ok(Verb::Close);
@@ -144,15 +166,19 @@ fn unlink(alloc: Global, text: &[u8]) -> Result<Request, Fault>
     Ok(Request::Unlink { path })
 }
 
-fn open_read(alloc: Global, text: &[u8]) -> Result<Request, Fault>
-    ensures { Gives (λ r. r) result (open_of (words_of text.now)) }
+fn open_file(alloc: Global, access: Access, text: &[u8]) -> Result<Request, Fault>
+    ensures { Gives (λ r. r) result (open_of (opened access) (words_of text.now)) }
 {
     match two_parts(text, b' ') {
         None => Err(Fault::Cause(ScriptCause::Words)),
         Some(parted) => {
             let handle = word::handle(parted.before)?;
             let path = word::path(alloc, parted.after)?;
-            Ok(Request::OpenRead { handle, path })
+            match access {
+                Access::Read => Ok(Request::OpenRead { handle, path }),
+                Access::Write => Ok(Request::OpenWrite { handle, path }),
+                Access::Truncate => Ok(Request::OpenTruncate { handle, path }),
+            }
         }
     }
 }
@@ -175,15 +201,31 @@ fn read(text: &[u8]) -> Result<Request, ScriptCause>
     }
 }
 
-fn close(text: &[u8]) -> Result<Request, ScriptCause>
-    ensures { result ≡ close_of (words_of text.now) }
+fn write(alloc: Global, text: &[u8]) -> Result<Request, Fault>
+    ensures { Gives (λ r. r) result (write_of (words_of text.now)) }
+{
+    match three_parts(text, b' ') {
+        None => Err(Fault::Cause(ScriptCause::Words)),
+        Some((name, rest)) => {
+            let handle = word::handle(name)?;
+            let offset = word::number(rest.before)?;
+            let content = content(alloc, rest.after)?;
+            Ok(Request::Write {
+                handle,
+                offset,
+                content,
+            })
+        }
+    }
+}
+
+// The handle of a request that has no other words.
+fn only_handle(text: &[u8]) -> Result<u16, ScriptCause>
+    ensures { (asks : ℕ → Request) → MatchResult result (λ handle. handle_only asks (words_of text.now) ≡ Ok (asks handle)) (λ cause. handle_only asks (words_of text.now) ≡ Err cause) }
 {
     match one_part(text, b' ') {
         None => Err(ScriptCause::Words),
-        Some(word) => {
-            let handle = word::handle(word)?;
-            Ok(Request::Close { handle })
-        }
+        Some(word) => word::handle(word),
     }
 }
 
@@ -196,8 +238,10 @@ fn bare_request(verb: Verb) -> Result<Request, ScriptCause>
         Verb::Put
         | Verb::Delete
         | Verb::Stat
-        | Verb::OpenRead
+        | Verb::Open(_)
         | Verb::Read
+        | Verb::Write
+        | Verb::Sync
         | Verb::Close
         | Verb::MakeDir
         | Verb::RemoveDir
@@ -214,9 +258,17 @@ fn request(alloc: Global, verb: Verb, text: &[u8]) -> Result<Request, Fault>
         Verb::Put => put(alloc, text),
         Verb::Delete => delete(alloc, text),
         Verb::Stat => stat(alloc, text),
-        Verb::OpenRead => open_read(alloc, text),
+        Verb::Open(access) => open_file(alloc, access, text),
         Verb::Read => Ok(read(text)?),
-        Verb::Close => Ok(close(text)?),
+        Verb::Write => write(alloc, text),
+        Verb::Sync => {
+            let handle = only_handle(text)?;
+            Ok(Request::Sync { handle })
+        }
+        Verb::Close => {
+            let handle = only_handle(text)?;
+            Ok(Request::Close { handle })
+        }
         Verb::MakeDir => make_dir(alloc, text),
         Verb::RemoveDir => remove_dir(alloc, text),
         Verb::Unlink => unlink(alloc, text),

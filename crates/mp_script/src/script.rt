@@ -51,6 +51,10 @@ fn count_in(request: &Request) -> u64
         | Request::Await
         | Request::Stat { .. }
         | Request::OpenRead { .. }
+        | Request::OpenWrite { .. }
+        | Request::OpenTruncate { .. }
+        | Request::Write { .. }
+        | Request::Sync { .. }
         | Request::Close { .. }
         | Request::Delete { .. }
         | Request::MakeDir { .. }
@@ -64,11 +68,14 @@ fn given_in(request: &Request) -> u64
     ensures { result ≡ given_in request.now }
 {
     match request {
-        Request::Put { content, .. } => content.len(),
+        Request::Put { content, .. } | Request::Write { content, .. } => content.len(),
         Request::Await
         | Request::Stat { .. }
         | Request::OpenRead { .. }
+        | Request::OpenWrite { .. }
+        | Request::OpenTruncate { .. }
         | Request::Read { .. }
+        | Request::Sync { .. }
         | Request::Close { .. }
         | Request::Delete { .. }
         | Request::MakeDir { .. }
@@ -156,7 +163,7 @@ fn read_lines(alloc: Global, bytes: &[u8]) -> Result<Vec<Line>, ScriptError>
 }
 
 /// The lines that the bytes spell, numbered from 1 by their place in the text.
-/// A script has at most 67,108,864 bytes and 65,536 lines. Its reads ask for at most 268,435,456 bytes together, and its puts give at most as many.
+/// A script has at most 67,108,864 bytes and 65,536 lines. Its reads ask for at most 268,435,456 bytes together, and its puts and writes give at most as many.
 /// Of several faults it is the first of these that is told: too many bytes, too many lines, the first bad line, too much to read, too much data.
 pub fn read_script(alloc: Global, bytes: &[u8]) -> Result<Script, ScriptError>
     ensures reads { ReadsScript bytes.now result }

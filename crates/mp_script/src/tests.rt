@@ -77,6 +77,39 @@ fn reads_and_deletions_are_read(rt: HostRuntime) -> Result<(), Fail> {
 }
 
 #[test]
+fn writes_are_read(rt: HostRuntime) -> Result<(), Fail> {
+    let script = read_script(
+        rt.alloc(),
+        b"1 openw 65535 /a\n2 opent 0 /%62\n1 write 007 9223372036854775807 t%00%0a\n1 fsync 65535",
+    )
+    .ok()
+    .ok_or("it is a script")?;
+    let [first, second, third, fourth] = script.as_slice() else {
+        return Err("there are four lines".into());
+    };
+    let Request::OpenWrite { handle, path } = &first.request else {
+        return Err("the first line opens a new file".into());
+    };
+    assert_eq!(rt; (*handle, path.as_str()), (65_535, "/a"));
+    let Request::OpenTruncate { handle, path } = &second.request else {
+        return Err("the second line opens a file anew".into());
+    };
+    assert_eq!(rt; (*handle, path.as_str()), (0, "/b"));
+    let Request::Write {
+        handle,
+        offset,
+        content: Data::Literal(bytes),
+    } = &third.request
+    else {
+        return Err("the third line is a write".into());
+    };
+    assert_eq!(rt; (*handle, *offset), (7, 9_223_372_036_854_775_807));
+    assert_eq!(rt; bytes.as_slice(), b"\x00\n".as_slice());
+    assert!(rt; matches!(fourth.request, Request::Sync { handle: 65_535 }));
+    Ok(())
+}
+
+#[test]
 fn passed_lines_keep_their_numbers(rt: HostRuntime) -> Result<(), Fail> {
     let script = read_script(rt.alloc(), b"\n# a comment \n#\n7 await\n\n8 await\n")
         .ok()
@@ -269,6 +302,42 @@ fn the_first_fault_of_a_read_is_told(rt: HostRuntime) {
     assert_eq!(rt; fault(rt.alloc(), longest), None);
 }
 
+#[test]
+fn the_first_fault_of_a_write_is_told(rt: HostRuntime) {
+    let cases = [
+        (b"\n0 openw 1 /a".as_slice(), ScriptCause::Verb),
+        (b"\n0 opent 1 /a".as_slice(), ScriptCause::Verb),
+        (b"\n0 write 1 0 t".as_slice(), ScriptCause::Verb),
+        (b"\n0 fsync 1".as_slice(), ScriptCause::Verb),
+        (b"\n1 openw 1".as_slice(), ScriptCause::Words),
+        (b"\n1 openw 1 /a /b".as_slice(), ScriptCause::Words),
+        (b"\n1 opent".as_slice(), ScriptCause::Words),
+        (b"\n1 opent x /a /b".as_slice(), ScriptCause::Words),
+        (b"\n1 write 1 0".as_slice(), ScriptCause::Words),
+        (b"\n1 write 1 0 t t".as_slice(), ScriptCause::Words),
+        (b"\n1 fsync".as_slice(), ScriptCause::Words),
+        (b"\n1 fsync 1 2".as_slice(), ScriptCause::Words),
+        (b"\n1 openw 65536 /%".as_slice(), ScriptCause::Handle),
+        (b"\n1 opent -1 /%".as_slice(), ScriptCause::Handle),
+        (b"\n1 write x x q".as_slice(), ScriptCause::Handle),
+        (b"\n1 fsync 65536".as_slice(), ScriptCause::Handle),
+        (
+            b"\n1 write 1 9223372036854775808 q".as_slice(),
+            ScriptCause::Number,
+        ),
+        (b"\n1 openw 1 /%4".as_slice(), ScriptCause::Escape),
+        (b"\n1 opent 1 \x80%".as_slice(), ScriptCause::Escape),
+        (b"\n1 write 1 0 t%4".as_slice(), ScriptCause::Escape),
+        (b"\n1 openw 1 /\xc3".as_slice(), ScriptCause::Utf8),
+        (b"\n1 opent 1 %ff".as_slice(), ScriptCause::Utf8),
+        (b"\n1 write 1 0 q".as_slice(), ScriptCause::Data),
+        (b"\n1 write 1 0 x0".as_slice(), ScriptCause::Data),
+    ];
+    for (line, cause) in cases {
+        assert_eq!(rt; fault(rt.alloc(), line), bad(2, cause));
+    }
+}
+
 // What reading so many comments gives, with some lines behind them.
 fn behind_comments(alloc: Global, count: usize, lines: &[u8]) -> Result<Option<ScriptError>, Fail> {
     let mut script = Vec::new(alloc);
@@ -315,6 +384,10 @@ fn data_has_a_limit_together(rt: HostRuntime) {
     assert_eq!(rt; fault(rt.alloc(), most), None);
     let more = b"0 put a g1:268435455\n0 put b x0000".as_slice();
     assert_eq!(rt; fault(rt.alloc(), more), stored);
+    let most_written = b"0 put a g1:268435455\n1 write 1 0 tx".as_slice();
+    assert_eq!(rt; fault(rt.alloc(), most_written), None);
+    let more_written = b"1 write 1 0 g1:268435455\n0 put a x0000".as_slice();
+    assert_eq!(rt; fault(rt.alloc(), more_written), stored);
     let greatest =
         b"0 put a g4294967295:9223372036854775807\n0 put a g0:9223372036854775807\n0 put a g0:9223372036854775807".as_slice();
     assert_eq!(rt; fault(rt.alloc(), greatest), stored);

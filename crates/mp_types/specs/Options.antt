@@ -1,6 +1,11 @@
--- The options of a mount that is told none.
-use Rattle.std.specs.Prelude.{false}
+-- The options of a mount.
+use Rattle.std.specs.Prelude.{◌≤◌, ◌^◌, false}
 use Rattle.mp_types.specs.declared.options.Opts.{Opts}
 
 abbrev pub default_options : Opts
-default_options = record { allow_delete = false }
+default_options = record { part = 8388608; allow_delete = false; allow_overwrite = false }
+
+-- each number is one that the option may have
+pub record AreWithin (options : Opts) : Type 0 where
+  pub part_low : 1 ≤ options.part
+  pub part_high : options.part ≤ 2 ^ 30

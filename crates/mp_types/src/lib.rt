@@ -17,7 +17,7 @@ pub use etag::{ETag, ETagFault};
 pub use items::Items;
 pub use key::{Key, KeyFault};
 pub use octets::Data;
-pub use options::Opts;
+pub use options::{MAX_HANDLES, Opts};
 pub use path::{FilePath, PathFault, below_root, is_name};
 pub use text::Text;
 

@@ -104,3 +104,12 @@ fn the_greatest_seed_wraps_to_its_place(rt: HostRuntime) -> Result<(), Fail> {
     assert_eq!(rt; bytes.as_slice(), [122u8, 123].as_slice());
     Ok(())
 }
+
+#[test]
+fn a_mount_has_options_by_default(rt: HostRuntime) -> Result<(), Fail> {
+    let options = Opts::default();
+    assert_eq!(rt; options.part, 8_388_608);
+    assert!(rt; !options.allow_delete);
+    assert!(rt; !options.allow_overwrite);
+    Ok(())
+}

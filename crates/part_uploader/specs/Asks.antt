@@ -1,5 +1,7 @@
--- What kind of call is due, and that it is asked for.
-use Rattle.std.specs.Prelude.{Bool, true, false, Option, Some, None}
+-- What is due of an upload, and that it is asked for.
+use Rattle.std.specs.Prelude.{ℕ, Bool, true, false, Option, Some, None}
+use Rattle.upload_rules.specs.declared.upload.Created.{Created}
+use Rattle.upload_rules.specs.declared.upload.Created.TheVariants.{Known}
 use Rattle.upload_rules.specs.declared.upload.UpAsk.{UpAsk}
 use Rattle.upload_rules.specs.declared.upload.UpAsk.TheVariants.{Part}
 use Rattle.upload_rules.specs.Upload.{Upload, due, with_ask}
@@ -10,11 +12,10 @@ is_part (Some (Part number from to)) = true
 is_part (Some other) = false
 is_part None = false
 
--- a call is due that carries no bytes
-abbrev pub is_plain : Option UpAsk → Bool
-is_plain (Some (Part number from to)) = false
-is_plain (Some other) = true
-is_plain None = false
+-- the upload's id, while it is known
+abbrev pub known_id : Created → Option ℕ
+known_id (Known upload) = Some upload
+known_id other = None
 
 -- what is due is asked for
 abbrev pub with_due : Upload → Upload

@@ -2,3 +2,4 @@ pub mod Asks
 pub mod Buffered
 pub mod Refusal
 pub mod Sound
+pub mod Unasked

@@ -1,17 +1,17 @@
 -- Why a write is refused, where there is memory for it.
 use Rattle.std.specs.Prelude.{ℕ, ◌+◌, ◌*◌, ◌==◌, nat_lt, not, if◌then◌else◌, Option, Some, None}
+use Rattle.bucket_model.specs.Answers.{max_parts}
 use Rattle.upload_rules.specs.declared.upload.UpState.{UpState}
 use Rattle.upload_rules.specs.declared.upload.UpState.TheVariants.{Open, Finished as HasAll, Done, Failed as HasFailed}
 use Rattle.upload_rules.specs.Upload.{Upload, written}
 use Rattle.part_uploader.specs.declared.fault.UpFault.{UpFault}
 use Rattle.part_uploader.specs.declared.fault.UpFault.TheVariants.{Failed, Finished, OutOfOrder, TooBig}
-use Rattle.part_uploader.specs.declared.fault.TheConstants.{MAX_PARTS}
 
 -- bytes go behind those that were written, and there are at most so many
 abbrev pub refusal_open : Upload → ℕ → ℕ → Option UpFault
 refusal_open u offset count =
     if not (offset == written u) then Some OutOfOrder
-    else (if nat_lt (u.part * MAX_PARTS) (offset + count) then Some TooBig else None)
+    else (if nat_lt (u.part * max_parts) (offset + count) then Some TooBig else None)
 
 -- why so many bytes aren't taken at this place
 abbrev pub refusal : Upload → ℕ → ℕ → Option UpFault

@@ -166,6 +166,16 @@ impl Buffers {
         }
     }
 
+    /// Lets the bytes of the next part go. Takes no memory.
+    pub fn drop_front(&mut self)
+        ensures { self.new ≡ record { part = self.old.part; bytes = drop self.old.part self.old.bytes } }
+    {
+        let Some(_) = self.full.pop_front() else {
+            self.last = Vec::new(self.alloc);
+            return;
+        };
+    }
+
     /// Lets all bytes go.
     pub fn clear(&mut self)
         ensures { self.new ≡ record { part = self.old.part; bytes = [] } }

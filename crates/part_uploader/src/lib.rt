@@ -6,6 +6,7 @@
 mod buffers;
 mod fault;
 mod uploader;
+mod waiting;
 
 pub use fault::{MAX_PARTS, UpFault};
 pub use uploader::Uploader;

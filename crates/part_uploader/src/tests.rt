@@ -100,10 +100,19 @@ impl Caller {
             }
             _ => return Ok(false),
         };
-        let part = self.uploader.take_part()?;
+        let part = self.uploader.part_bytes()?;
+        self.uploader.asked();
         self.calls = self.calls.saturating_add(1);
         self.parts = self.parts.saturating_add(1);
         Ok(part.as_slice() == bytes && to.checked_sub(from) == Some(bytes.len() as u64))
+    }
+
+    // Whether a part of these bytes is due, which isn't asked for.
+    fn sees_part(&mut self, bytes: &[u8]) -> Result<bool, Fail> {
+        match self.uploader.next_ask() {
+            Some(UpAsk::Part { .. }) => Ok(self.uploader.part_bytes()?.as_slice() == bytes),
+            _ => Ok(false),
+        }
     }
 
     fn created(&mut self, upload: u64) -> Result<(), Fail> {
@@ -207,6 +216,23 @@ fn parts_go_across_the_borders_of_writes(rt: HostRuntime) -> Result<(), Fail> {
     assert_eq!(rt; caller.len(), 14);
     caller.finish()?;
     assert!(rt; caller.asks_part(4, 12, b"mn")?);
+    assert_eq!(rt; caller.due(), None);
+    Ok(())
+}
+
+#[test]
+fn a_part_is_there_until_it_is_asked_for(rt: HostRuntime) -> Result<(), Fail> {
+    let mut caller = Caller::new(rt.alloc(), 4)?;
+    assert_eq!(rt; caller.write(0, b"abcdef")?, Ok(6));
+    caller.create()?;
+    assert!(rt; caller.sees_part(b"abcd")?);
+    assert_eq!(rt; caller.write(6, b"ghij")?, Ok(4));
+    assert!(rt; caller.asks_part(1, 0, b"abcd")?);
+    assert!(rt; caller.asks_part(2, 4, b"efgh")?);
+    caller.finish()?;
+    assert!(rt; caller.sees_part(b"ij")?);
+    assert!(rt; caller.sees_part(b"ij")?);
+    assert!(rt; caller.asks_part(3, 8, b"ij")?);
     assert_eq!(rt; caller.due(), None);
     Ok(())
 }

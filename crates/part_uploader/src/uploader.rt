@@ -1,12 +1,12 @@
-ghost use Rattle.std.specs.Prelude.{◌≡◌, ◌≢◌, ◌+◌, ◌-◌, ◌^◌, ◌<◌, ◌≤◌, ◌↔◌, Some, IsTrue, length, drop, IfOk, OnOk, OnErr, IsErrOf};
+ghost use Rattle.std.specs.Prelude.{◌≡◌, ◌≢◌, ◌==◌, ◌+◌, ◌-◌, ◌^◌, ◌<◌, ◌≤◌, ◌↔◌, Some, IsSome, IsTrue, length, drop, IfOk, OnOk, OnErr, IsErrOf};
 ghost use Rattle.mp_types.specs.declared.errno.Errno.TheVariants.{Enomem};
 ghost use Rattle.mp_types.specs.Content.{bytes_of};
 ghost use Rattle.upload_rules.specs.Upload.{new_upload, written, is_full, has_part, next_part, ask_part, due_open, due_finished, due_failed, due, with_ask, with_bytes, finished, with_closing, with_back, with_id, with_stored, completed, fails_with, with_failure, given_up};
-ghost use Rattle.part_uploader.specs.Asks.{is_part, is_plain, with_due};
+ghost use Rattle.part_uploader.specs.Asks.{is_part, known_id, with_due};
 ghost use Rattle.part_uploader.specs.Refusal.{refusal_open, refusal};
 
-use crate::buffers::Buffers;
 use crate::fault::{MAX_PARTS, UpFault};
+use crate::waiting::Waiting;
 use bytes::Bytes;
 use mp_types::{Data, Errno};
 use std::alloc::{AllocError, Global};
@@ -21,7 +21,7 @@ pub struct Uploader {
     asked: u32,
     sent: u64,
     stored: u32,
-    waiting: Buffers,
+    waiting: Waiting,
     // so many bytes were written
     total: u64,
     pending: u32,
@@ -37,7 +37,7 @@ impl Model for Uploader {
 
     ghost view = { λ a. upload_of a.state a.created a.asked a.sent a.stored a.waiting a.pending a.closing };
 
-    ghost invariant = { λ a. IsSound (upload_of a.state a.created a.asked a.sent a.stored a.waiting a.pending a.closing) a.total };
+    ghost invariant = { λ a. IsSound (upload_of a.state a.created a.asked a.sent a.stored a.waiting a.pending a.closing) a.waiting.ended a.total };
 }
 
 impl Uploader {
@@ -53,7 +53,7 @@ impl Uploader {
             asked: 0,
             sent: 0,
             stored: 0,
-            waiting: Buffers::new(alloc, part as usize),
+            waiting: Waiting::new(alloc, part as usize),
             total: 0,
             pending: 0,
             closing: false,
@@ -131,7 +131,6 @@ impl Uploader {
 
     /// A close waits for the end of the upload.
     pub fn closing(&mut self)
-        requires { self.old.state ≢ UpState.Done }
         ensures { self.new ≡ with_closing self.old }
     {
         self.closing = true;
@@ -213,9 +212,27 @@ impl Uploader {
         }
     }
 
+    /// The upload's id, while it is known.
+    pub fn id(&self) -> Option<u64>
+        ensures { result ≡ known_id self.now.created }
+    {
+        match self.created {
+            Created::Known(upload) => Some(upload),
+            Created::NotAsked | Created::Asked | Created::GivenUp => None,
+        }
+    }
+
+    /// Whether all calls that were asked for are back.
+    pub fn all_back(&self) -> bool
+        ensures { result ≡ (self.now.pending == 0) }
+    {
+        self.pending == 0
+    }
+
     /// What is to be asked of the bucket next.
     pub fn next_ask(&self) -> Option<UpAsk>
-        ensures { result ≡ due self.now }
+        ensures ask { result ≡ due self.now }
+        ensures part { 1 ≤ self.now.part }
     {
         match self.state {
             UpState::Open => self.due_open(),
@@ -225,31 +242,43 @@ impl Uploader {
         }
     }
 
-    /// The bytes of the part that is due, which is asked for. No byte is copied. A refusal changes nothing.
-    pub fn take_part(&mut self) -> Result<Bytes, AllocError>
+    /// The bytes of the part that is due, which isn't asked for yet. No byte is copied: until it is asked for, the
+    /// bytes are shared.
+    pub fn part_bytes(&mut self) -> Result<Bytes, AllocError>
         requires { IsTrue (is_part (due self.old)) }
         ensures next { due self.old ≡ Some (ask_part self.old) }
         ensures bytes { IfOk result (λ bytes. bytes ≡ next_part self.old) }
-        ensures ok { OnOk result (self.new ≡ with_ask (ask_part self.old) self.old) }
-        ensures err { OnErr result (self.new ≡ self.old) }
+        ensures kept { self.new ≡ self.old }
     {
-        let bytes = self.waiting.take_front()?;
-        self.asked += 1;
-        self.sent += bytes.len() as u64;
-        self.pending += 1;
-        Ok(bytes)
+        self.waiting.front()
     }
 
-    /// What is due, and carries no bytes, is asked for. Takes no memory.
+    // The part that is due is asked for.
+    fn part_asked(&mut self)
+        requires { IsTrue (is_part (due self.old)) }
+        ensures { self.new ≡ with_ask (ask_part self.old) self.old }
+    {
+        let waiting = self.total - self.sent;
+        self.sent += waiting.min(self.waiting.part() as u64);
+        self.asked += 1;
+        self.pending += 1;
+        self.waiting.drop_front();
+    }
+
+    /// What is due is asked for, and the bytes of a part are let go. Takes no memory.
     pub fn asked(&mut self)
-        requires { IsTrue (is_plain (due self.old)) }
+        requires { IsSome (due self.old) }
         ensures { self.new ≡ with_due self.old }
     {
-        match self.created {
-            Created::NotAsked => self.created = Created::Asked,
-            Created::Asked | Created::Known(_) | Created::GivenUp => {}
+        match self.next_ask() {
+            Some(UpAsk::Create) => {
+                self.created = Created::Asked;
+                self.pending += 1;
+            }
+            Some(UpAsk::Part { .. }) => self.part_asked(),
+            Some(UpAsk::Complete { .. }) | Some(UpAsk::Abort) => self.pending += 1,
+            None => {}
         }
-        self.pending += 1;
     }
 
     /// The upload was made, and has this id.

@@ -1,15 +1,15 @@
--- What each request may say next, by its kind: only an await waits, only a read gives bytes, each call may be made,
--- and fewer calls are left with each answer to one.
-use Rattle.std.proofs.Common.{◌≡◌, ◌≢◌, ℕ, ◌+◌, ◌*◌, ◌<◌, ◌≤◌, min, List, [], ◌∷◌, length, Bool, true, false, ◌||◌, ◌==◌, nat_le, if◌then◌else◌, Option, Some, None, Result, Ok, Err, refl, ap, subst, arith}
+-- What each request may say next, by its kind: only an await waits for other lines, only a read gives bytes, each call
+-- may be made, fewer calls are left with each answer to one, and what a handle is opened under, written to or ended by.
+use Rattle.std.proofs.Common.{◌≡◌, ◌≢◌, ℕ, ◌+◌, ◌*◌, ◌<◌, ◌≤◌, min, List, [], ◌∷◌, length, Bool, true, false, not, ◌||◌, ◌==◌, nat_le, nat_lt, if◌then◌else◌, Option, Some, None, Result, Ok, Err, refl, sym, ap, ◌∙◌, subst, arith, eqb-true, ltb-false}
 use Rattle.std.proofs.lemmas.Bool.{eqb-false, leb-false}
-use Rattle.mp_types.specs.declared.errno.Errno.TheVariants.{Eperm, Eexist, Eisdir, Emfile, Enotempty}
+use Rattle.mp_types.specs.declared.errno.Errno.TheVariants.{Eperm, Einval, Eexist, Eisdir, Emfile, Efbig, Enotempty}
 use Rattle.mp_types.specs.declared.path.PathFault.{PathFault}
 use Rattle.mp_types.specs.Content.{bytes_of}
 use Rattle.mp_types.specs.declared.octets.Data.{Data}
 use Rattle.mp_types.specs.Path.{path_of, joined}
 use Rattle.mp_types.specs.HandleName.{max_handles}
 use Rattle.mp_rules.specs.declared.entry.Entry.{Entry}
-use Rattle.mp_rules.specs.declared.entry.Entry.TheVariants.{RemoteDir, LocalDir, File, Nothing}
+use Rattle.mp_rules.specs.declared.entry.Entry.TheVariants.{RemoteDir, LocalDir, LocalFile, File, Nothing}
 use Rattle.mp_rules.specs.declared.entry.Local.{Local}
 use Rattle.mp_rules.specs.declared.facts.Question.{Question}
 use Rattle.mp_rules.specs.declared.facts.Question.TheVariants as question
@@ -19,58 +19,93 @@ use Rattle.mp_rules.specs.declared.facts.Known.{Known}
 use Rattle.mp_rules.specs.Walk.{fact_in, Decision, Need, Is, Refused, walk}
 use Rattle.mp_rules.specs.Local.{LocalNames, local_at, has_name_below}
 use Rattle.bucket_model.specs.declared.call.Call.{Call}
-use Rattle.bucket_model.specs.declared.call.Call.TheVariants as call
-use Rattle.bucket_model.specs.Answers.{MayBeMade}
+use Rattle.bucket_model.specs.Answers.{max_parts, MayBeMade}
 use Rattle.bucket_model.specs.declared.answer.Brief.{Brief}
-use Rattle.bucket_model.specs.declared.answer.Brief.TheVariants.{Found, Missing, Yes, No, Bytes, Changed, Gone, Made, Fault, NoMemory}
+use Rattle.bucket_model.specs.declared.answer.Brief.TheVariants.{Missing, Bytes, Changed, Gone, Made, Fault}
+use Rattle.upload_rules.specs.declared.upload.UpState.{UpState}
+use Rattle.upload_rules.specs.declared.upload.UpState.TheVariants as state
+use Rattle.upload_rules.specs.Upload.{Upload, written, with_bytes, with_closing}
 use Rattle.mount_model.specs.declared.request.Request.{Request}
-use Rattle.mount_model.specs.declared.request.Request.TheVariants.{Put, Await, Stat, OpenRead, Read, Close, Delete, MakeDir, RemoveDir, Unlink}
+use Rattle.mount_model.specs.declared.request.Request.TheVariants.{Put, Await, Stat, OpenRead, OpenWrite, OpenTruncate, Read, Write, Sync, Close, Delete, MakeDir, RemoveDir, Unlink}
 use Rattle.mount_model.specs.declared.request.Reply.{Reply}
 use Rattle.mount_model.specs.declared.request.Reply.TheVariants as reply
-use Rattle.mount_model.specs.declared.handle.Handle.{Handle}
+use Rattle.mount_model.specs.declared.handle.Handle.TheVariants.{Reading, Writing}
 use Rattle.mount_model.specs.declared.handle.Version.{Version}
+use Rattle.mount_model.specs.declared.handle.Waiter.{Waiter}
+use Rattle.mount_model.specs.declared.handle.Waiter.TheVariants as waiter
 use Rattle.mount_model.specs.declared.standing.Heard.{Heard}
 use Rattle.mount_model.specs.Heard.{nothing_heard, with_told, call_of, question_of, fact_of, told_from, told_by}
-use Rattle.mount_model.specs.Conversation.{Next, Asks, Replies, Makes, Removes, Opens, Gives, Waits, View, Range, range_in, fails, put_next, delete_next, at_path, along, stat_at, stat_next, open_at, open_next, make_at, make_next, remove_at, remove_next, unlink_at, unlink_next, range_next, read_next, close_next, next_of}
-use Rattle.mount_model.specs.State.{content_in}
+use Rattle.mount_model.specs.Handles.{Handle, Writer, name_in}
+use Rattle.mount_model.specs.Conversation.{Next, Asks, Replies, Makes, Removes, Opens, Creates, Gives, Writes, Ends, Waits, View, Range, range_in, fails, put_next, delete_next, at_path, along, stat_at, stat_next, opens_if, open_at, create_at, open_next, make_at, make_next, remove_at, remove_next, unlink_at, unlink_next, range_next, read_next, with_upload, waited_for, write_at, write_to, write_next, ended, sync_next, close_next, next_of}
 use Rattle.run_laws.specs.Alive.{jobs_at_once}
-use Rattle.run_laws.specs.Work.{one_left, path_left, calls_left}
+use Rattle.run_laws.specs.Work.{one_left, path_left, calls_left, writer_calls}
+use Rattle.run_laws.specs.Writers.{opens_file, awaits_writer, waiting_line}
 pub use Rattle.run_laws.specs.Faithful.{IsRead}
 use Rattle.run_laws.proofs.Questions.{path-falls, path-most}
-
--- a put stores this content
-abbrev pub Puts : List ℕ → Call → Type 0
-Puts content (call.Head key) = Unit {0}
-Puts content (call.Probe key) = Unit {0}
-Puts content (call.Get key etag from to) = Unit {0}
-Puts content (call.Delete key) = Unit {0}
-Puts content (call.Put key bytes) = bytes ≡ content
 
 -- a reply without data
 abbrev pub IsPlain : Reply → Type 0
 IsPlain (reply.Data bytes) = ⊥
-IsPlain (reply.Made etag) = Unit {0}
-IsPlain reply.Success = Unit {0}
-IsPlain reply.Directory = Unit {0}
-IsPlain (reply.File size) = Unit {0}
-IsPlain (reply.Open size) = Unit {0}
-IsPlain reply.Gone = Unit {0}
-IsPlain (reply.Failed errno) = Unit {0}
+IsPlain other = Unit {0}
 
 -- each answer to this call leaves less
 abbrev pub Falls : (Heard → ℕ) → Heard → Call → Type 0
 Falls left heard called = (answer : Brief) → left (with_told (told_by (question_of called) answer) heard) < left heard
 
--- Each answer to a call that it asks leaves fewer to ask. The call may be made, with the request's own content. Only
--- a read gives bytes, and it doesn't wait.
-abbrev pub SpeaksWith : Request → (Heard → ℕ) → Heard → Next → Type 0
-SpeaksWith request left heard (Asks called) = Falls left heard called × MayBeMade called × Puts (content_in request) called
-SpeaksWith request left heard (Replies said) = IsPlain said
-SpeaksWith request left heard (Makes key) = Unit {0}
-SpeaksWith request left heard (Removes key) = Unit {0}
-SpeaksWith request left heard (Opens version) = Unit {0}
-SpeaksWith request left heard (Gives count) = IsRead request
-SpeaksWith request left heard Waits = ⊥
+-- a call of a line's own: the line has one at once, each answer leaves fewer, and it may be made
+pub record IsAsked (request : Request) (left : Heard → ℕ) (heard : Heard) (called : Call) : Type 0 where
+  pub one : jobs_at_once request ≡ 1
+  pub falls : Falls left heard called
+  pub may : MayBeMade called
+
+-- a handle that is opened has a free name
+pub record IsFree (view : View) (request : Request) : Type 0 where
+  pub name : ℕ
+  pub names : name_in request ≡ Some name
+  pub free : view.handle ≡ None
+
+-- a write of bytes behind those of a writer that takes them
+pub record WritesSo (view : View) (request : Request) (count : ℕ) (now : Writer) : Type 0 where
+  pub name : ℕ
+  pub names : name_in request ≡ Some name
+  pub before : Writer
+  pub live : view.handle ≡ Some (Writing before)
+  pub opened : before.upload.state ≡ state.Open
+  pub bytes : List ℕ
+  pub now_is : now ≡ with_upload (with_bytes bytes before.upload) before
+  pub count_is : count ≡ length bytes
+  pub fits : before.upload.sent + length before.upload.rest + length bytes ≤ before.upload.part * max_parts
+  pub calls : writer_calls request ≡ length bytes
+  pub one : jobs_at_once request ≡ 1
+  pub no_wait : awaits_writer request ≡ false
+
+-- an fsync or a close has a writer go to its end
+abbrev pub ends_as : Waiter → Upload → Upload
+ends_as (waiter.Close line) u = with_closing (ended u)
+ends_as other u = ended u
+
+pub record EndsSo (view : View) (request : Request) (now : Writer) : Type 0 where
+  pub name : ℕ
+  pub names : name_in request ≡ Some name
+  pub before : Writer
+  pub live : view.handle ≡ Some (Writing before)
+  pub who : Waiter
+  pub now_is : now ≡ waited_for who (ends_as who before.upload) before
+  pub waits : waiting_line who ≡ Some view.line
+  pub awaits : awaits_writer request ≡ true
+
+-- what it takes to say this next
+abbrev pub SpeaksWith : View → Request → (Heard → ℕ) → Heard → Next → Type 0
+SpeaksWith view request left heard (Asks called) = IsAsked request left heard called
+SpeaksWith view request left heard (Replies said) = IsPlain said
+SpeaksWith view request left heard (Makes key) = Unit {0}
+SpeaksWith view request left heard (Removes key) = Unit {0}
+SpeaksWith view request left heard (Opens version) = IsFree view request
+SpeaksWith view request left heard (Creates key) = IsFree view request × (opens_file request ≡ true)
+SpeaksWith view request left heard (Gives count) = IsRead request
+SpeaksWith view request left heard (Writes count writer) = WritesSo view request count writer
+SpeaksWith view request left heard (Ends writer) = EndsSo view request writer
+SpeaksWith view request left heard Waits = ⊥
 
 -- where one call is all
 abbrev one_call : Heard → ℕ
@@ -79,117 +114,115 @@ one_call heard = one_left heard.answers
 abbrev heard_of : List Known → List Brief → Heard
 heard_of facts answers = record { facts = facts; answers = answers }
 
-put-speaks : (key : List ℕ) (content : Data) (facts : List Known) (answers : List Brief) → SpeaksWith (Put key content) one_call (heard_of facts answers) (put_next key (bytes_of content) answers)
-put-speaks key content facts [] = (λ answer. omega arith, tt, refl)
-put-speaks key content facts (Found etag size ∷ answers) = tt
-put-speaks key content facts (Missing ∷ answers) = tt
-put-speaks key content facts (Yes ∷ answers) = tt
-put-speaks key content facts (No ∷ answers) = tt
-put-speaks key content facts (Bytes count ∷ answers) = tt
-put-speaks key content facts (Changed ∷ answers) = tt
-put-speaks key content facts (Gone ∷ answers) = tt
-put-speaks key content facts (Made etag ∷ answers) = tt
-put-speaks key content facts (Fault ∷ answers) = tt
-put-speaks key content facts (NoMemory ∷ answers) = tt
+put-speaks : (view : View) (key : List ℕ) (content : Data) (facts : List Known) (answers : List Brief) → SpeaksWith view (Put key content) one_call (heard_of facts answers) (put_next key (bytes_of content) answers)
+put-speaks view key content facts [] = record { one = refl; falls = λ answer. omega arith; may = tt }
+put-speaks view key content facts (Made etag ∷ answers) = tt
+put-speaks view key content facts (other ∷ answers) = tt
 
 -- what stands at a path ends the request, or asks for a call that leaves fewer
-abbrev Ends : Request → (Heard → ℕ) → (Entry → Next) → Type 0
-Ends request left at = (facts : List Known) (entry : Entry) → SpeaksWith request left (heard_of facts []) (at entry)
+abbrev EndsAt : View → Request → (Heard → ℕ) → (Entry → Next) → Type 0
+EndsAt view request left at = (facts : List Known) (entry : Entry) → SpeaksWith view request left (heard_of facts []) (at entry)
 
-stat-ends : (request : Request) (left : Heard → ℕ) → Ends request left stat_at
-stat-ends request left facts RemoteDir = tt
-stat-ends request left facts LocalDir = tt
-stat-ends request left facts (File etag size) = tt
-stat-ends request left facts Nothing = tt
+stat-ends : (view : View) (request : Request) (left : Heard → ℕ) → EndsAt view request left stat_at
+stat-ends view request left facts RemoteDir = tt
+stat-ends view request left facts LocalDir = tt
+stat-ends view request left facts (LocalFile size) = tt
+stat-ends view request left facts (File etag size) = tt
+stat-ends view request left facts Nothing = tt
 
-open-ends : (request : Request) (left : Heard → ℕ) (live : ℕ) (key : List ℕ) → Ends request left (open_at live key)
-open-ends request left live key facts RemoteDir = tt
-open-ends request left live key facts LocalDir = tt
-open-ends request left live key facts (File etag size) = go (live == max_handles)
+-- opened, unless too many are
+opens-speak : (view : View) (request : Request) (left : Heard → ℕ) (heard : Heard) (live : ℕ) (opened : Next) → SpeaksWith view request left heard opened → SpeaksWith view request left heard (opens_if live opened)
+opens-speak view request left heard live opened speaks = go (live == max_handles)
   where
-    go : (full : Bool) → SpeaksWith request left (heard_of facts []) (if full then fails Emfile else Opens (record { key = key; etag = etag; size = size }))
+    go : (full : Bool) → SpeaksWith view request left heard (if full then fails Emfile else opened)
+    go true = tt
+    go false = speaks
+
+open-ends : (view : View) (request : Request) (left : Heard → ℕ) (live : ℕ) (key : List ℕ) → IsFree view request → EndsAt view request left (open_at live key)
+open-ends view request left live key free facts RemoteDir = tt
+open-ends view request left live key free facts LocalDir = tt
+open-ends view request left live key free facts (LocalFile size) = tt
+open-ends view request left live key free facts (File etag size) = opens-speak view request left (heard_of facts []) live (Opens (record { key = key; etag = etag; size = size })) free
+open-ends view request left live key free facts Nothing = tt
+
+create-ends : (view : View) (request : Request) (left : Heard → ℕ) (may_overwrite : Bool) (live : ℕ) (key : List ℕ) → IsFree view request → opens_file request ≡ true → EndsAt view request left (create_at may_overwrite live key)
+create-ends view request left may_overwrite live key free opens facts RemoteDir = tt
+create-ends view request left may_overwrite live key free opens facts LocalDir = tt
+create-ends view request left may_overwrite live key free opens facts (LocalFile size) = tt
+create-ends view request left true live key free opens facts (File etag size) = opens-speak view request left (heard_of facts []) live (Creates key) (free, opens)
+create-ends view request left false live key free opens facts (File etag size) = tt
+create-ends view request left may_overwrite live key free opens facts Nothing = opens-speak view request left (heard_of facts []) live (Creates key) (free, opens)
+
+make-ends : (view : View) (request : Request) (left : Heard → ℕ) (key : List ℕ) → EndsAt view request left (make_at key)
+make-ends view request left key facts Nothing = tt
+make-ends view request left key facts other = tt
+
+remove-ends : (view : View) (request : Request) (left : Heard → ℕ) (names : LocalNames) (key : List ℕ) → EndsAt view request left (remove_at names key)
+remove-ends view request left names key facts RemoteDir = tt
+remove-ends view request left names key facts LocalDir = go (has_name_below names key)
+  where
+    go : (some : Bool) → SpeaksWith view request left (heard_of facts []) (if some then fails Enotempty else Removes key)
     go true = tt
     go false = tt
-open-ends request left live key facts Nothing = tt
+remove-ends view request left names key facts (LocalFile size) = tt
+remove-ends view request left names key facts (File etag size) = tt
+remove-ends view request left names key facts Nothing = tt
 
-make-ends : (request : Request) (left : Heard → ℕ) (key : List ℕ) → Ends request left (make_at key)
-make-ends request left key facts RemoteDir = tt
-make-ends request left key facts LocalDir = tt
-make-ends request left key facts (File etag size) = tt
-make-ends request left key facts Nothing = tt
-
-remove-ends : (request : Request) (left : Heard → ℕ) (names : LocalNames) (key : List ℕ) → Ends request left (remove_at names key)
-remove-ends request left names key facts RemoteDir = tt
-remove-ends request left names key facts LocalDir = go (has_name_below names key)
-  where
-    go : (some : Bool) → SpeaksWith request left (heard_of facts []) (if some then fails Enotempty else Removes key)
-    go true = tt
-    go false = tt
-remove-ends request left names key facts (File etag size) = tt
-remove-ends request left names key facts Nothing = tt
-
-unlink-ends : (request : Request) (may_delete : Bool) (key : List ℕ) (names : List (List ℕ)) → Ends request (path_left 1 (Ok names)) (unlink_at may_delete key)
-unlink-ends request may_delete key names facts RemoteDir = tt
-unlink-ends request may_delete key names facts LocalDir = tt
-unlink-ends request true key names facts (File etag size) = (λ answer. omega arith, tt, tt)
-unlink-ends request false key names facts (File etag size) = tt
-unlink-ends request may_delete key names facts Nothing = tt
+unlink-ends : (view : View) (request : Request) (may_delete : Bool) (key : List ℕ) (names : List (List ℕ)) → jobs_at_once request ≡ 1 → EndsAt view request (path_left 1 (Ok names)) (unlink_at may_delete key)
+unlink-ends view request may_delete key names one facts RemoteDir = tt
+unlink-ends view request may_delete key names one facts LocalDir = tt
+unlink-ends view request may_delete key names one facts (LocalFile size) = tt
+unlink-ends view request true key names one facts (File etag size) = record { one = one; falls = λ answer. omega arith; may = tt }
+unlink-ends view request false key names one facts (File etag size) = tt
+unlink-ends view request may_delete key names one facts Nothing = tt
 
 -- the answer to a question on the way is one more fact, or the question failed
 asked-falls : (behind : ℕ) (local : List ℕ → Local) (name : List ℕ) (names : List (List ℕ)) (facts : List Known) (question : Question) → walk (fact_in facts) local name names ≡ Need question → (o : Option Fact) (answer : Brief) → path_left behind (Ok (name ∷ names)) (with_told (told_from (Some question) o answer) (heard_of facts [])) < path_left behind (Ok (name ∷ names)) (heard_of facts [])
 asked-falls behind local name names facts question asks None answer = let some = path-falls facts local name names question fact.No asks in omega arith
 asked-falls behind local name names facts question asks (Some told) answer = let some = path-falls facts local name names question told asks in omega arith
 
-need-speaks : (request : Request) (behind : ℕ) (local : List ℕ → Local) (name : List ℕ) (names : List (List ℕ)) (facts : List Known) (question : Question) → walk (fact_in facts) local name names ≡ Need question → SpeaksWith request (path_left behind (Ok (name ∷ names))) (heard_of facts []) (Asks (call_of question))
-need-speaks request behind local name names facts (question.Head key) asks = (λ answer. asked-falls behind local name names facts (question.Head key) asks (fact_of answer) answer, tt, tt)
-need-speaks request behind local name names facts (question.Probe key) asks = (λ answer. asked-falls behind local name names facts (question.Probe key) asks (fact_of answer) answer, tt, tt)
+need-speaks : (view : View) (request : Request) (behind : ℕ) (local : List ℕ → Local) (name : List ℕ) (names : List (List ℕ)) (facts : List Known) (question : Question) → jobs_at_once request ≡ 1 → walk (fact_in facts) local name names ≡ Need question → SpeaksWith view request (path_left behind (Ok (name ∷ names))) (heard_of facts []) (Asks (call_of question))
+need-speaks view request behind local name names facts (question.Head key) one asks = record { one = one; falls = λ answer. asked-falls behind local name names facts (question.Head key) asks (fact_of answer) answer; may = tt }
+need-speaks view request behind local name names facts (question.Probe key) one asks = record { one = one; falls = λ answer. asked-falls behind local name names facts (question.Probe key) asks (fact_of answer) answer; may = tt }
 
-names-speak : (request : Request) (behind : ℕ) (view : View) (root : Reply) (at : Entry → Next) (names : List (List ℕ)) → IsPlain root → Ends request (path_left behind (Ok names)) at → (facts : List Known) (answers : List Brief) → SpeaksWith request (path_left behind (Ok names)) (heard_of facts answers) (along view (Replies root) at names (heard_of facts answers))
-names-speak request behind view root at [] plain ends facts answers = plain
-names-speak request behind view root at (name ∷ names) plain ends facts (answer ∷ answers) = tt
-names-speak request behind view root at (name ∷ names) plain ends facts [] = go (walk (fact_in facts) (local_at view.names) name names) refl
+names-speak : (request : Request) (behind : ℕ) (view : View) (root : Reply) (at : Entry → Next) (names : List (List ℕ)) → jobs_at_once request ≡ 1 → IsPlain root → EndsAt view request (path_left behind (Ok names)) at → (facts : List Known) (answers : List Brief) → SpeaksWith view request (path_left behind (Ok names)) (heard_of facts answers) (along view (Replies root) at names (heard_of facts answers))
+names-speak request behind view root at [] one plain ends facts answers = plain
+names-speak request behind view root at (name ∷ names) one plain ends facts (answer ∷ answers) = tt
+names-speak request behind view root at (name ∷ names) one plain ends facts [] = go (walk (fact_in facts) (local_at view.names) name names) refl
   where
-    go : (decision : Decision) → walk (fact_in facts) (local_at view.names) name names ≡ decision → SpeaksWith request (path_left behind (Ok (name ∷ names))) (heard_of facts []) (at_path at decision [])
-    go (Need question) is = need-speaks request behind (local_at view.names) name names facts question is
+    go : (decision : Decision) → walk (fact_in facts) (local_at view.names) name names ≡ decision → SpeaksWith view request (path_left behind (Ok (name ∷ names))) (heard_of facts []) (at_path at decision [])
+    go (Need question) is = need-speaks view request behind (local_at view.names) name names facts question one is
     go (Is entry) is = ends facts entry
     go (Refused errno) is = tt
 
-stat-speaks : (request : Request) (view : View) (path : Result (List (List ℕ)) PathFault) (heard : Heard) → SpeaksWith request (path_left 0 path) heard (stat_next view path heard)
-stat-speaks request view (Err why) heard = tt
-stat-speaks request view (Ok names) heard = names-speak request 0 view reply.Directory stat_at names tt (stat-ends request (path_left 0 (Ok names))) heard.facts heard.answers
+stat-speaks : (request : Request) (view : View) (path : Result (List (List ℕ)) PathFault) (heard : Heard) → jobs_at_once request ≡ 1 → SpeaksWith view request (path_left 0 path) heard (stat_next view path heard)
+stat-speaks request view (Err why) heard one = tt
+stat-speaks request view (Ok names) heard one = names-speak request 0 view reply.Directory stat_at names one tt (stat-ends view request (path_left 0 (Ok names))) heard.facts heard.answers
 
-open-speaks : (request : Request) (view : View) (live : Option Handle) (path : Result (List (List ℕ)) PathFault) (heard : Heard) → SpeaksWith request (path_left 0 path) heard (open_next view live path heard)
-open-speaks request view live (Err why) heard = tt
-open-speaks request view (Some handle) (Ok names) heard = tt
-open-speaks request view None (Ok names) heard = names-speak request 0 view (reply.Failed Eisdir) (open_at view.live (joined names)) names tt (open-ends request (path_left 0 (Ok names)) view.live (joined names)) heard.facts heard.answers
+open-speaks : (at : ℕ → List ℕ → Entry → Next) (request : Request) (view : View) (handle : Option Handle) (path : Result (List (List ℕ)) PathFault) (heard : Heard) → jobs_at_once request ≡ 1 → (handle ≡ None → (names : List (List ℕ)) → EndsAt view request (path_left 0 (Ok names)) (at view.live (joined names))) → SpeaksWith view request (path_left 0 path) heard (open_next at view handle path heard)
+open-speaks at request view handle (Err why) heard one ends = tt
+open-speaks at request view (Some handle) (Ok names) heard one ends = tt
+open-speaks at request view None (Ok names) heard one ends = names-speak request 0 view (reply.Failed Eisdir) (at view.live (joined names)) names one tt (ends refl names) heard.facts heard.answers
 
-make-speaks : (request : Request) (view : View) (path : Result (List (List ℕ)) PathFault) (heard : Heard) → SpeaksWith request (path_left 0 path) heard (make_next view path heard)
-make-speaks request view (Err why) heard = tt
-make-speaks request view (Ok names) heard = names-speak request 0 view (reply.Failed Eexist) (make_at (joined names)) names tt (make-ends request (path_left 0 (Ok names)) (joined names)) heard.facts heard.answers
+make-speaks : (request : Request) (view : View) (path : Result (List (List ℕ)) PathFault) (heard : Heard) → jobs_at_once request ≡ 1 → SpeaksWith view request (path_left 0 path) heard (make_next view path heard)
+make-speaks request view (Err why) heard one = tt
+make-speaks request view (Ok names) heard one = names-speak request 0 view (reply.Failed Eexist) (make_at (joined names)) names one tt (make-ends view request (path_left 0 (Ok names)) (joined names)) heard.facts heard.answers
 
-remove-speaks : (request : Request) (view : View) (path : Result (List (List ℕ)) PathFault) (heard : Heard) → SpeaksWith request (path_left 0 path) heard (remove_next view path heard)
-remove-speaks request view (Err why) heard = tt
-remove-speaks request view (Ok names) heard = names-speak request 0 view (reply.Failed Eperm) (remove_at view.names (joined names)) names tt (remove-ends request (path_left 0 (Ok names)) view.names (joined names)) heard.facts heard.answers
+remove-speaks : (request : Request) (view : View) (path : Result (List (List ℕ)) PathFault) (heard : Heard) → jobs_at_once request ≡ 1 → SpeaksWith view request (path_left 0 path) heard (remove_next view path heard)
+remove-speaks request view (Err why) heard one = tt
+remove-speaks request view (Ok names) heard one = names-speak request 0 view (reply.Failed Eperm) (remove_at view.names (joined names)) names one tt (remove-ends view request (path_left 0 (Ok names)) view.names (joined names)) heard.facts heard.answers
 
-unlink-speaks : (request : Request) (view : View) (path : Result (List (List ℕ)) PathFault) (heard : Heard) → SpeaksWith request (path_left 1 path) heard (unlink_next view path heard)
-unlink-speaks request view (Err why) heard = tt
-unlink-speaks request view (Ok names) heard = go heard.facts heard.answers
+unlink-speaks : (request : Request) (view : View) (path : Result (List (List ℕ)) PathFault) (heard : Heard) → jobs_at_once request ≡ 1 → SpeaksWith view request (path_left 1 path) heard (unlink_next view path heard)
+unlink-speaks request view (Err why) heard one = tt
+unlink-speaks request view (Ok names) heard one = go heard.facts heard.answers
   where
-    along_names : (facts : List Known) (answers : List Brief) → SpeaksWith request (path_left 1 (Ok names)) (heard_of facts answers) (along view (fails Eisdir) (unlink_at view.options.allow_delete (joined names)) names (heard_of facts answers))
-    along_names facts answers = names-speak request 1 view (reply.Failed Eisdir) (unlink_at view.options.allow_delete (joined names)) names tt (unlink-ends request view.options.allow_delete (joined names) names) facts answers
+    along_names : (facts : List Known) (answers : List Brief) → SpeaksWith view request (path_left 1 (Ok names)) (heard_of facts answers) (along view (fails Eisdir) (unlink_at view.options.allow_delete (joined names)) names (heard_of facts answers))
+    along_names facts answers = names-speak request 1 view (reply.Failed Eisdir) (unlink_at view.options.allow_delete (joined names)) names one tt (unlink-ends view request view.options.allow_delete (joined names) names one) facts answers
 
-    go : (facts : List Known) (answers : List Brief) → SpeaksWith request (path_left 1 (Ok names)) (heard_of facts answers) (unlink_next view (Ok names) (heard_of facts answers))
+    go : (facts : List Known) (answers : List Brief) → SpeaksWith view request (path_left 1 (Ok names)) (heard_of facts answers) (unlink_next view (Ok names) (heard_of facts answers))
     go facts [] = along_names facts []
-    go facts (Found etag size ∷ answers) = along_names facts (Found etag size ∷ answers)
-    go facts (Missing ∷ answers) = along_names facts (Missing ∷ answers)
-    go facts (Yes ∷ answers) = along_names facts (Yes ∷ answers)
-    go facts (No ∷ answers) = along_names facts (No ∷ answers)
-    go facts (Bytes count ∷ answers) = along_names facts (Bytes count ∷ answers)
-    go facts (Changed ∷ answers) = along_names facts (Changed ∷ answers)
     go facts (Gone ∷ answers) = tt
-    go facts (Made etag ∷ answers) = along_names facts (Made etag ∷ answers)
-    go facts (Fault ∷ answers) = along_names facts (Fault ∷ answers)
-    go facts (NoMemory ∷ answers) = along_names facts (NoMemory ∷ answers)
+    go facts (other ∷ answers) = along_names facts (other ∷ answers)
 
 -- a range has a byte
 pub range_some : (offset count size : ℕ) (range : Range) → range_in offset count size ≡ Some range → range.from < range.to
@@ -206,79 +239,107 @@ range_some offset count size range is = go (count == 0) (nat_le size offset) ref
         let to_is : min (offset + count) size ≡ range.to = ap (λ (r : Range). r.to) same in
         omega arith
 
-range-speaks : (request : Request) → IsRead request → (version : Version) (o : Option Range) (facts : List Known) (answers : List Brief) → ((range : Range) → o ≡ Some range → range.from < range.to) → SpeaksWith request one_call (heard_of facts answers) (range_next version o answers)
-range-speaks request read version None facts answers some = read
-range-speaks request read version (Some range) facts [] some = (λ answer. omega arith, some range refl, tt)
-range-speaks request read version (Some range) facts (Found etag size ∷ answers) some = tt
-range-speaks request read version (Some range) facts (Missing ∷ answers) some = tt
-range-speaks request read version (Some range) facts (Yes ∷ answers) some = tt
-range-speaks request read version (Some range) facts (No ∷ answers) some = tt
-range-speaks request read version (Some range) facts (Bytes count ∷ answers) some = read
-range-speaks request read version (Some range) facts (Changed ∷ answers) some = tt
-range-speaks request read version (Some range) facts (Gone ∷ answers) some = tt
-range-speaks request read version (Some range) facts (Made etag ∷ answers) some = tt
-range-speaks request read version (Some range) facts (Fault ∷ answers) some = tt
-range-speaks request read version (Some range) facts (NoMemory ∷ answers) some = tt
+range-speaks : (view : View) (name offset count : ℕ) (version : Version) (o : Option Range) (facts : List Known) (answers : List Brief) → ((range : Range) → o ≡ Some range → range.from < range.to) → SpeaksWith view (Read name offset count) one_call (heard_of facts answers) (range_next version o answers)
+range-speaks view name offset count version None facts answers some = tt
+range-speaks view name offset count version (Some range) facts [] some = record { one = refl; falls = λ answer. omega arith; may = some range refl }
+range-speaks view name offset count version (Some range) facts (Bytes given ∷ answers) some = tt
+range-speaks view name offset count version (Some range) facts (Changed ∷ answers) some = tt
+range-speaks view name offset count version (Some range) facts (Missing ∷ answers) some = tt
+range-speaks view name offset count version (Some range) facts (other ∷ answers) some = tt
 
-read-speaks : (name : ℕ) (handle : Option Handle) (offset count : ℕ) (heard : Heard) → SpeaksWith (Read name offset count) one_call heard (read_next handle offset count heard.answers)
-read-speaks name None offset count heard = tt
-read-speaks name (Some handle) offset count heard = range-speaks (Read name offset count) tt handle.version (range_in offset count handle.version.size) heard.facts heard.answers (range_some offset count handle.version.size)
+read-speaks : (view : View) (name : ℕ) (handle : Option Handle) (offset count : ℕ) (heard : Heard) → SpeaksWith view (Read name offset count) one_call heard (read_next handle offset count heard.answers)
+read-speaks view name None offset count heard = tt
+read-speaks view name (Some (Reading line version)) offset count heard = range-speaks view name offset count version (range_in offset count version.size) heard.facts heard.answers (range_some offset count version.size)
+read-speaks view name (Some (Writing writer)) offset count heard = tt
 
-close-speaks : (request : Request) (left : Heard → ℕ) (heard : Heard) (handle : Option Handle) → SpeaksWith request left heard (close_next handle)
-close-speaks request left heard None = tt
-close-speaks request left heard (Some handle) = tt
+-- a writer that takes bytes
+write-at-speaks : (view : View) (name offset : ℕ) (content : Data) (heard : Heard) (w : Writer) → view.handle ≡ Some (Writing w) → w.upload.state ≡ state.Open → SpeaksWith view (Write name offset content) (calls_left (Write name offset content)) heard (write_at w offset (bytes_of content))
+write-at-speaks view name offset content heard w live opened = go (offset == written w.upload) (nat_lt (w.upload.part * max_parts) (offset + length (bytes_of content))) refl refl
+  where
+    go : (at over : Bool) → (offset == written w.upload) ≡ at → nat_lt (w.upload.part * max_parts) (offset + length (bytes_of content)) ≡ over → SpeaksWith view (Write name offset content) (calls_left (Write name offset content)) heard (if not at then fails Einval else (if over then fails Efbig else Writes (length (bytes_of content)) (with_upload (with_bytes (bytes_of content) w.upload) w)))
+    go false over at_is over_is = tt
+    go true true at_is over_is = tt
+    go true false at_is over_is =
+        let place : offset ≡ written w.upload = eqb-true offset (written w.upload) at_is in
+        let fits = ltb-false (w.upload.part * max_parts) (offset + length (bytes_of content)) over_is in
+        record { name = name; names = refl; before = w; live = live; opened = opened; bytes = bytes_of content; now_is = refl; count_is = refl; fits = omega arith; calls = refl; one = refl; no_wait = refl }
 
-delete-speaks : (request : Request) (key : List ℕ) (facts : List Known) (answers : List Brief) → SpeaksWith request one_call (heard_of facts answers) (delete_next key answers)
-delete-speaks request key facts [] = (λ answer. omega arith, tt, tt)
-delete-speaks request key facts (Found etag size ∷ answers) = tt
-delete-speaks request key facts (Missing ∷ answers) = tt
-delete-speaks request key facts (Yes ∷ answers) = tt
-delete-speaks request key facts (No ∷ answers) = tt
-delete-speaks request key facts (Bytes count ∷ answers) = tt
-delete-speaks request key facts (Changed ∷ answers) = tt
-delete-speaks request key facts (Gone ∷ answers) = tt
-delete-speaks request key facts (Made etag ∷ answers) = tt
-delete-speaks request key facts (Fault ∷ answers) = tt
-delete-speaks request key facts (NoMemory ∷ answers) = tt
+write-to-speaks : (view : View) (name offset : ℕ) (content : Data) (heard : Heard) (line : ℕ) (key : List ℕ) (u : Upload) (who : Waiter) → view.handle ≡ Some (Writing (record { line = line; key = key; upload = u; waiter = who })) → (up : UpState) → u.state ≡ up → SpeaksWith view (Write name offset content) (calls_left (Write name offset content)) heard (write_to (record { line = line; key = key; upload = record { part = u.part; state = up; created = u.created; asked = u.asked; sent = u.sent; stored = u.stored; rest = u.rest; pending = u.pending; closing = u.closing }; waiter = who }) offset (bytes_of content))
+write-to-speaks view name offset content heard line key u who live state.Open is =
+    let v : Upload = record { part = u.part; state = state.Open; created = u.created; asked = u.asked; sent = u.sent; stored = u.stored; rest = u.rest; pending = u.pending; closing = u.closing } in
+    let same : u ≡ v = ap (λ (s : UpState). record { part = u.part; state = s; created = u.created; asked = u.asked; sent = u.sent; stored = u.stored; rest = u.rest; pending = u.pending; closing = u.closing }) is in
+    write-at-speaks view name offset content heard (record { line = line; key = key; upload = v; waiter = who }) (live ∙ ap (λ (t : Upload). Some (Writing (record { line = line; key = key; upload = t; waiter = who }))) same) refl
+write-to-speaks view name offset content heard line key u who live (state.Failed errno) is = tt
+write-to-speaks view name offset content heard line key u who live other is = tt
+
+write-speaks : (view : View) (name offset : ℕ) (content : Data) (heard : Heard) (handle : Option Handle) → view.handle ≡ handle → SpeaksWith view (Write name offset content) (calls_left (Write name offset content)) heard (write_next handle offset (bytes_of content))
+write-speaks view name offset content heard None live = tt
+write-speaks view name offset content heard (Some (Reading line version)) live = tt
+write-speaks view name offset content heard (Some (Writing w)) live = write-to-speaks view name offset content heard w.line w.key w.upload w.waiter live w.upload.state refl
+
+sync-speaks : (view : View) (name : ℕ) (heard : Heard) (handle : Option Handle) → view.handle ≡ handle → SpeaksWith view (Sync name) (calls_left (Sync name)) heard (sync_next view.line handle)
+sync-speaks view name heard None live = tt
+sync-speaks view name heard (Some (Reading line version)) live = tt
+sync-speaks view name heard (Some (Writing w)) live = record { name = name; names = refl; before = w; live = live; who = waiter.Sync view.line; now_is = refl; waits = refl; awaits = refl }
+
+close-speaks : (view : View) (name : ℕ) (heard : Heard) (handle : Option Handle) → view.handle ≡ handle → SpeaksWith view (Close name) (calls_left (Close name)) heard (close_next view.line handle)
+close-speaks view name heard None live = tt
+close-speaks view name heard (Some (Reading line version)) live = tt
+close-speaks view name heard (Some (Writing w)) live = record { name = name; names = refl; before = w; live = live; who = waiter.Close view.line; now_is = refl; waits = refl; awaits = refl }
+
+delete-speaks : (view : View) (key : List ℕ) (facts : List Known) (answers : List Brief) → SpeaksWith view (Delete key) one_call (heard_of facts answers) (delete_next key answers)
+delete-speaks view key facts [] = record { one = refl; falls = λ answer. omega arith; may = tt }
+delete-speaks view key facts (Gone ∷ answers) = tt
+delete-speaks view key facts (other ∷ answers) = tt
 
 -- a request speaks so, unless it is an await
 data Speaks (view : View) (request : Request) (heard : Heard) : Type 0 where
-  AwaitSpeaks : jobs_at_once request ≡ 0 → next_of view request heard ≡ Waits → Speaks view request heard
-  OtherSpeaks : jobs_at_once request ≡ 1 → SpeaksWith request (calls_left request) heard (next_of view request heard) → Speaks view request heard
+  AwaitSpeaks : request ≡ Await → next_of view request heard ≡ Waits → Speaks view request heard
+  OtherSpeaks : SpeaksWith view request (calls_left request) heard (next_of view request heard) → Speaks view request heard
+
+is-free : (view : View) (request : Request) (name : ℕ) → name_in request ≡ Some name → view.handle ≡ None → IsFree view request
+is-free view request name names free = record { name = name; names = names; free = free }
 
 speaks : (view : View) (request : Request) (heard : Heard) → Speaks view request heard
-speaks view (Put key content) heard = OtherSpeaks refl (put-speaks key content heard.facts heard.answers)
+speaks view (Put key content) heard = OtherSpeaks (put-speaks view key content heard.facts heard.answers)
 speaks view Await heard = AwaitSpeaks refl refl
-speaks view (Stat path) heard = OtherSpeaks refl (stat-speaks (Stat path) view (path_of path) heard)
-speaks view (OpenRead name path) heard = OtherSpeaks refl (open-speaks (OpenRead name path) view view.handle (path_of path) heard)
-speaks view (Read name offset count) heard = OtherSpeaks refl (read-speaks name view.handle offset count heard)
-speaks view (Close name) heard = OtherSpeaks refl (close-speaks (Close name) (calls_left (Close name)) heard view.handle)
-speaks view (Delete key) heard = OtherSpeaks refl (delete-speaks (Delete key) key heard.facts heard.answers)
-speaks view (MakeDir path) heard = OtherSpeaks refl (make-speaks (MakeDir path) view (path_of path) heard)
-speaks view (RemoveDir path) heard = OtherSpeaks refl (remove-speaks (RemoveDir path) view (path_of path) heard)
-speaks view (Unlink path) heard = OtherSpeaks refl (unlink-speaks (Unlink path) view (path_of path) heard)
+speaks view (Stat path) heard = OtherSpeaks (stat-speaks (Stat path) view (path_of path) heard refl)
+speaks view (OpenRead name path) heard = OtherSpeaks (open-speaks open_at (OpenRead name path) view view.handle (path_of path) heard refl (λ free names. open-ends view (OpenRead name path) (path_left 0 (Ok names)) view.live (joined names) (is-free view (OpenRead name path) name refl free)))
+speaks view (OpenWrite name path) heard = OtherSpeaks (open-speaks (create_at false) (OpenWrite name path) view view.handle (path_of path) heard refl (λ free names. create-ends view (OpenWrite name path) (path_left 0 (Ok names)) false view.live (joined names) (is-free view (OpenWrite name path) name refl free) refl))
+speaks view (OpenTruncate name path) heard = OtherSpeaks (open-speaks (create_at view.options.allow_overwrite) (OpenTruncate name path) view view.handle (path_of path) heard refl (λ free names. create-ends view (OpenTruncate name path) (path_left 0 (Ok names)) view.options.allow_overwrite view.live (joined names) (is-free view (OpenTruncate name path) name refl free) refl))
+speaks view (Read name offset count) heard = OtherSpeaks (read-speaks view name view.handle offset count heard)
+speaks view (Write name offset content) heard = OtherSpeaks (write-speaks view name offset content heard view.handle refl)
+speaks view (Sync name) heard = OtherSpeaks (sync-speaks view name heard view.handle refl)
+speaks view (Close name) heard = OtherSpeaks (close-speaks view name heard view.handle refl)
+speaks view (Delete key) heard = OtherSpeaks (delete-speaks view key heard.facts heard.answers)
+speaks view (MakeDir path) heard = OtherSpeaks (make-speaks (MakeDir path) view (path_of path) heard refl)
+speaks view (RemoveDir path) heard = OtherSpeaks (remove-speaks (RemoveDir path) view (path_of path) heard refl)
+speaks view (Unlink path) heard = OtherSpeaks (unlink-speaks (Unlink path) view (path_of path) heard refl)
 
-pub only_await_waits : (view : View) (request : Request) (heard : Heard) → next_of view request heard ≡ Waits → jobs_at_once request ≡ 0
+pub only_await_waits : (view : View) (request : Request) (heard : Heard) → next_of view request heard ≡ Waits → request ≡ Await
 only_await_waits view request heard is = go (speaks view request heard)
   where
-    go : Speaks view request heard → jobs_at_once request ≡ 0
-    go (AwaitSpeaks none waits) = none
-    go (OtherSpeaks one fine) = absurd (subst (SpeaksWith request (calls_left request) heard) is fine)
+    go : Speaks view request heard → request ≡ Await
+    go (AwaitSpeaks awaits waits) = awaits
+    go (OtherSpeaks fine) = absurd (subst (SpeaksWith view request (calls_left request) heard) is fine)
 
--- where it asks, it is no await
-asks-speak : (view : View) (request : Request) (heard : Heard) (called : Call) → next_of view request heard ≡ Asks called → (jobs_at_once request ≡ 1) × SpeaksWith request (calls_left request) heard (Asks called)
-asks-speak view request heard called is = go (speaks view request heard)
+-- what is said next takes what it has to
+spoken : (view : View) (request : Request) (heard : Heard) (next : Next) → next_of view request heard ≡ next → next ≢ Waits → SpeaksWith view request (calls_left request) heard next
+spoken view request heard next is other = go (speaks view request heard)
   where
-    go : Speaks view request heard → (jobs_at_once request ≡ 1) × SpeaksWith request (calls_left request) heard (Asks called)
-    go (AwaitSpeaks none waits) = absurd (cc)
-    go (OtherSpeaks one fine) = (one, subst (SpeaksWith request (calls_left request) heard) is fine)
+    go : Speaks view request heard → SpeaksWith view request (calls_left request) heard next
+    go (AwaitSpeaks awaits waits) = absurd (other (sym is ∙ waits))
+    go (OtherSpeaks fine) = subst (SpeaksWith view request (calls_left request) heard) is fine
+
+pub asks-so : (view : View) (request : Request) (heard : Heard) (called : Call) → next_of view request heard ≡ Asks called → IsAsked request (calls_left request) heard called
+asks-so view request heard called is = spoken view request heard (Asks called) is (λ e. absurd (cc))
 
 pub asks-one : (view : View) (request : Request) (heard : Heard) (called : Call) → next_of view request heard ≡ Asks called → jobs_at_once request ≡ 1
-asks-one view request heard called is = (asks-speak view request heard called is).0
+asks-one view request heard called is = (asks-so view request heard called is).one
 
 -- an answer to the call leaves fewer
 pub calls_left_fall : (view : View) (request : Request) (heard : Heard) (called : Call) (answer : Brief) → next_of view request heard ≡ Asks called → calls_left request (with_told (told_by (question_of called) answer) heard) < calls_left request heard
-calls_left_fall view request heard called answer is = let some = (asks-speak view request heard called is).1 in some.0 answer
+calls_left_fall view request heard called answer is = (asks-so view request heard called is).falls answer
 
 -- so that one is left where it is asked
 pub asks-left : (view : View) (request : Request) (heard : Heard) (called : Call) → next_of view request heard ≡ Asks called → 0 < calls_left request heard
@@ -286,39 +347,67 @@ asks-left view request heard called is = let falls = calls_left_fall view reques
 
 -- the call may be made
 pub asks_made : (view : View) (request : Request) (heard : Heard) (called : Call) → next_of view request heard ≡ Asks called → MayBeMade called
-asks_made view request heard called is = let some = (asks-speak view request heard called is).1 in some.1
-
--- and stores the request's own content
-pub asks-puts : (view : View) (request : Request) (heard : Heard) (called : Call) → next_of view request heard ≡ Asks called → Puts (content_in request) called
-asks-puts view request heard called is = let some = (asks-speak view request heard called is).1 in some.2
+asks_made view request heard called is = (asks-so view request heard called is).may
 
 pub gives-read : (view : View) (request : Request) (heard : Heard) (count : ℕ) → next_of view request heard ≡ Gives count → IsRead request
-gives-read view request heard count is = go (speaks view request heard)
-  where
-    go : Speaks view request heard → IsRead request
-    go (AwaitSpeaks none waits) = absurd (cc)
-    go (OtherSpeaks one fine) = subst (SpeaksWith request (calls_left request) heard) is fine
+gives-read view request heard count is = spoken view request heard (Gives count) is (λ e. absurd (cc))
 
 -- no data but those of a read
 pub replies-plain : (view : View) (request : Request) (heard : Heard) (said : Reply) → next_of view request heard ≡ Replies said → IsPlain said
-replies-plain view request heard said is = go (speaks view request heard)
-  where
-    go : Speaks view request heard → IsPlain said
-    go (AwaitSpeaks none waits) = absurd (cc)
-    go (OtherSpeaks one fine) = subst (SpeaksWith request (calls_left request) heard) is fine
+replies-plain view request heard said is = spoken view request heard (Replies said) is (λ e. absurd (cc))
+
+pub opens-free : (view : View) (request : Request) (heard : Heard) (version : Version) → next_of view request heard ≡ Opens version → IsFree view request
+opens-free view request heard version is = spoken view request heard (Opens version) is (λ e. absurd (cc))
+
+pub creates-free : (view : View) (request : Request) (heard : Heard) (key : List ℕ) → next_of view request heard ≡ Creates key → IsFree view request × (opens_file request ≡ true)
+creates-free view request heard key is = spoken view request heard (Creates key) is (λ e. absurd (cc))
+
+pub writes-so : (view : View) (request : Request) (heard : Heard) (count : ℕ) (writer : Writer) → next_of view request heard ≡ Writes count writer → WritesSo view request count writer
+writes-so view request heard count writer is = spoken view request heard (Writes count writer) is (λ e. absurd (cc))
+
+pub ends-so : (view : View) (request : Request) (heard : Heard) (writer : Writer) → next_of view request heard ≡ Ends writer → EndsSo view request writer
+ends-so view request heard writer is = spoken view request heard (Ends writer) is (λ e. absurd (cc))
+
+-- an fsync or a close of a writer isn't answered by itself
+pub replies-unwritten : (view : View) (request : Request) (heard : Heard) (said : Reply) (w : Writer) → awaits_writer request ≡ true → next_of view request heard ≡ Replies said → view.handle ≢ Some (Writing w)
+replies-unwritten view (Sync name) heard said w awaits is live = let next : sync_next view.line (Some (Writing w)) ≡ Replies said = ap (sync_next view.line) (sym live) ∙ is in absurd (cc)
+replies-unwritten view (Close name) heard said w awaits is live = let next : close_next view.line (Some (Writing w)) ≡ Replies said = ap (close_next view.line) (sym live) ∙ is in absurd (cc)
+replies-unwritten view other heard said w awaits is live = absurd (cc)
+
+-- what has a job of its own awaits no writer
+pub one-no-wait : (request : Request) → jobs_at_once request ≡ 1 → awaits_writer request ≡ false
+one-no-wait (Sync name) one = absurd (omega arith)
+one-no-wait (Close name) one = absurd (omega arith)
+one-no-wait other one = refl
+
+pub one-no-await : (request : Request) → jobs_at_once request ≡ 1 → request ≢ Await
+one-no-await request one is = let none : jobs_at_once request ≡ 0 = ap jobs_at_once is in absurd (omega arith)
+
+-- and what opens a file has calls for its writer
+pub opens-calls : (request : Request) → opens_file request ≡ true → writer_calls request ≡ 4
+opens-calls (OpenWrite name path) is = refl
+opens-calls (OpenTruncate name path) is = refl
+opens-calls other is = absurd (cc)
+
+pub awaits-name : (request : Request) → awaits_writer request ≡ true → (name : ℕ) × (name_in request ≡ Some name)
+awaits-name (Sync name) is = (name, refl)
+awaits-name (Close name) is = (name, refl)
+awaits-name other is = absurd (cc)
+
+pub opens-name : (request : Request) → opens_file request ≡ true → (name : ℕ) × (name_in request ≡ Some name)
+opens-name (OpenWrite name path) is = (name, refl)
+opens-name (OpenTruncate name path) is = (name, refl)
+opens-name other is = absurd (cc)
 
 -- what a read does next hangs on its handle alone, of all that it sees of the mount
 pub read_next_same : (one other : View) (request : Request) (heard : Heard) → IsRead request → one.handle ≡ other.handle → next_of one request heard ≡ next_of other request heard
 read_next_same one other (Read name offset count) heard read same = ap (λ (h : Option Handle). read_next h offset count heard.answers) same
-read_next_same one other (Put key content) heard read same = absurd read
-read_next_same one other Await heard read same = absurd read
-read_next_same one other (Stat path) heard read same = absurd read
-read_next_same one other (OpenRead name path) heard read same = absurd read
-read_next_same one other (Close name) heard read same = absurd read
-read_next_same one other (Delete key) heard read same = absurd read
-read_next_same one other (MakeDir path) heard read same = absurd read
-read_next_same one other (RemoveDir path) heard read same = absurd read
-read_next_same one other (Unlink path) heard read same = absurd read
+read_next_same one other request heard read same = absurd read
+
+-- and where it asks, its handle reads
+pub read-reads : (view : View) (request : Request) (heard : Heard) (called : Call) (w : Writer) → IsRead request → next_of view request heard ≡ Asks called → view.handle ≢ Some (Writing w)
+read-reads view (Read name offset count) heard called w read is live = let next : read_next (Some (Writing w)) offset count heard.answers ≡ Asks called = ap (λ (h : Option Handle). read_next h offset count heard.answers) (sym live) ∙ is in absurd (cc)
+read-reads view request heard called w read is live = absurd read
 
 -- how many calls there are to make from the first one on
 

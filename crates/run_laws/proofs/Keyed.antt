@@ -1,6 +1,8 @@
 -- Lists whose items are found and changed by their rising keys.
-use Rattle.std.proofs.Common.{◌≡◌, ℕ, ◌+◌, ◌<◌, ◌≤◌, List, [], ◌∷◌, ◌++◌, map, find, cond, Bool, true, false, ◌==◌, if◌then◌else◌, Option, Some, refl, sym, ap, ◌∙◌, arith, eqb-true, eq-eqb, ne_eqb}
-use Rattle.run_laws.specs.Alive.{total}
+use Rattle.std.proofs.Common.{◌≡◌, ℕ, ◌+◌, ◌<◌, ◌≤◌, List, [], ◌∷◌, ◌++◌, map, find, cond, Bool, true, false, ◌==◌, if◌then◌else◌, Option, Some, refl, sym, ap, ◌∙◌, subst, arith, eqb-true, eq-eqb, ne_eqb}
+use Rattle.std.proofs.lemmas.Bool.{eqb-false}
+use Rattle.std.specs.List.{AllByRecursion}
+use Rattle.run_laws.specs.Counts.{total}
 pub use Rattle.run_laws.specs.Order.{Rises}
 
 abbrev pub item_at : {X : Type 0} → (X → ℕ) → ℕ → List X → Option X
@@ -105,3 +107,62 @@ total-two {X} key weight n m (z ∷ zs) x y apart e f = go (key z == n) (key z =
     go true false is is' e f ih = let same : z ≡ x = cc in let w : weight z ≡ weight x = ap weight same in let more = total-at key weight m zs y f in omega arith
     go false true is is' e f ih = let same : z ≡ y = cc in let w : weight z ≡ weight y = ap weight same in let more = total-at key weight n zs x e in omega arith
     go false false is is' e f ih = let more = ih e f in omega arith
+
+-- other weights
+
+pub total-same : {X : Type 0} (f g : X → ℕ) → ((x : X) → f x ≡ g x) → (xs : List X) → total f xs ≡ total g xs
+total-same f g same [] = refl
+total-same f g same (x ∷ xs) = let first = same x in let more = total-same f g same xs in omega arith
+
+pub total-most : {X : Type 0} (f g : X → ℕ) → ((x : X) → f x ≤ g x) → (xs : List X) → total f xs ≤ total g xs
+total-most f g most [] = omega arith
+total-most f g most (x ∷ xs) = let first = most x in let more = total-most f g most xs in omega arith
+
+-- weights that differ at no item of another key than this, at items above it
+total-above : {X : Type 0} (key : X → ℕ) (f g : X → ℕ) (above n : ℕ) (xs : List X) → n ≤ above → Rises key above xs → ((y : X) → (key y ≡ n → ⊥) → f y ≡ g y) → total f xs ≡ total g xs
+total-above key f g above n [] h r same = refl
+total-above key f g above n (x ∷ xs) h r same =
+    let first : above < key x = r.0 in
+    let here = same x (λ e. absurd (omega arith)) in
+    let more = total-above key f g (key x) n xs (omega arith) r.1 same in
+    omega arith
+
+-- and at one item
+pub total-weights : {X : Type 0} (key : X → ℕ) (f g : X → ℕ) (above n : ℕ) (xs : List X) (x : X) → Rises key above xs → item_at key n xs ≡ Some x → ((y : X) → (key y ≡ n → ⊥) → f y ≡ g y) → total f xs + g x ≡ total g xs + f x
+total-weights key f g above n [] x r e same = absurd (cc)
+total-weights {X} key f g above n (y ∷ ys) x r e same = go (key y == n) refl e (λ later. total-weights key f g (key y) n ys x r.1 later same)
+  where
+    go : (b : Bool) → (key y == n) ≡ b → cond b (Some y) (item_at key n ys) ≡ Some x → (item_at key n ys ≡ Some x → total f ys + g x ≡ total g ys + f x) → total f (y ∷ ys) + g x ≡ total g (y ∷ ys) + f x
+    go true is e ih =
+        let number = eqb-true (key y) n is in
+        let same_item : y ≡ x = cc in
+        let here : f y ≡ f x = ap f same_item in
+        let there : g y ≡ g x = ap g same_item in
+        let more = total-above key f g (key y) n ys (omega arith) r.1 same in
+        omega arith
+    go false is e ih =
+        let here = same y (λ k. eqb-false (key y) n is k) in
+        let later = ih e in
+        omega arith
+
+-- what holds of all items
+
+pub all-more : {X : Type 0} (P Q : X → Type 0) → ((x : X) → P x → Q x) → (xs : List X) → AllByRecursion P xs → AllByRecursion Q xs
+all-more P Q more [] all = tt
+all-more P Q more (x ∷ xs) all = (more x all.0, all-more P Q more xs all.1)
+
+pub all-append : {X : Type 0} (P : X → Type 0) (xs ys : List X) → AllByRecursion P xs → AllByRecursion P ys → AllByRecursion P (xs ++ ys)
+all-append P [] ys first all = all
+all-append P (x ∷ xs) ys first all = (first.0, all-append P xs ys first.1 all)
+
+pub all-front : {X : Type 0} (P : X → Type 0) (xs ys : List X) → AllByRecursion P (xs ++ ys) → AllByRecursion P xs
+all-front P [] ys all = tt
+all-front P (x ∷ xs) ys all = (all.0, all-front P xs ys all.1)
+
+pub all-found : {X : Type 0} (key : X → ℕ) (P : X → Type 0) (n : ℕ) (xs : List X) (x : X) → AllByRecursion P xs → item_at key n xs ≡ Some x → P x
+all-found key P n [] x all e = absurd (cc)
+all-found {X} key P n (y ∷ ys) x all e = go (key y == n) e (all-found key P n ys x all.1)
+  where
+    go : (b : Bool) → cond b (Some y) (item_at key n ys) ≡ Some x → (item_at key n ys ≡ Some x → P x) → P x
+    go true e ih = let same : y ≡ x = cc in subst P same all.0
+    go false e ih = ih e

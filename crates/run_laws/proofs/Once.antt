@@ -1,36 +1,34 @@
 -- Each line begins at most once, and is answered at most once, behind its beginning.
-use Rattle.std.proofs.Common.{◌≡◌, ℕ, ◌+◌, ◌<◌, ◌≤◌, List, [], ◌∷◌, map, fold, length, cond, Bool, true, false, ◌==◌, Option, Some, None, inl, inr, refl, sym, ap, ◌∙◌, subst, arith, eqb-true, eq-eqb, ne_eqb}
+use Rattle.std.proofs.Common.{◌≡◌, ℕ, ◌+◌, ◌<◌, ◌≤◌, List, [], ◌∷◌, map, fold, cond, Bool, true, false, ◌==◌, Option, Some, None, ◌⊎◌, inl, inr, refl, sym, ap, ◌∙◌, subst, arith, eqb-true, eq-eqb, ne_eqb}
 use Rattle.std.specs.List.{AllByRecursion}
 use Rattle.mp_types.specs.declared.options.Opts.{Opts}
+use Rattle.mp_types.specs.Options.{AreWithin}
 use Rattle.bucket_model.specs.Along.{Along}
-use Rattle.mount_model.specs.declared.request.Request.{Request}
-use Rattle.mount_model.specs.declared.request.Request.TheVariants.{Put, Await, Stat, OpenRead, Read, Close, Delete, MakeDir, RemoveDir, Unlink}
 use Rattle.mount_model.specs.declared.request.Reply.{Reply}
 use Rattle.mount_model.specs.declared.request.Reply.TheVariants as reply
-use Rattle.mp_types.specs.declared.errno.Errno.TheVariants.{Enomem}
 use Rattle.mount_model.specs.declared.request.Line.{Line}
 use Rattle.mount_model.specs.declared.event.Event.{Event}
-use Rattle.mount_model.specs.declared.event.Event.TheVariants.{Begin, Take, Done}
-use Rattle.mount_model.specs.declared.event.Owner.{Owner}
-use Rattle.mount_model.specs.declared.event.Ask.{Ask}
 use Rattle.mount_model.specs.declared.event.Answered.{Answered}
 use Rattle.mount_model.specs.declared.standing.Heard.{Heard}
 use Rattle.mount_model.specs.declared.standing.Phase.{Phase}
 use Rattle.mount_model.specs.declared.standing.Phase.TheVariants.{Waiting, Begun, Replied}
 use Rattle.mount_model.specs.declared.standing.Standing.{Standing}
 use Rattle.mount_model.specs.Step.{Step}
-use Rattle.mount_model.specs.State.{ClientState, Job, view_of, line_at, change_line, lines_at, with_replies, opening, after, state_after}
-use Rattle.mount_model.specs.Conversation.{Next, Asks, Replies, Makes, Removes, Opens, Gives, Waits, View, next_of}
-use Rattle.mount_model.specs.Run.{AreRising, MayCome, TakesTurn, Turn, TurnOf, turn_at, due_awaits, IsLegalStep, IsRunSoFar, IsRun}
-use Rattle.run_laws.specs.Alive.{total, IsAlive}
+use Rattle.mount_model.specs.State.{ClientState, line_at, change_line, lines_at, with_replies, opening, after, state_after}
+use Rattle.mount_model.specs.Run.{AreRising, due_awaits, IsLegalStep, IsRunSoFar, IsRun}
+use Rattle.run_laws.specs.Counts.{total}
+use Rattle.run_laws.specs.Alive.{IsAlive}
 use Rattle.run_laws.specs.Order.{Rises, reply_line}
 use Rattle.run_laws.specs.Once.{begins, replies_to, begins_in, replies_in, begun_in, replied_in, for_phase}
-use Rattle.run_laws.proofs.Keyed.{item_at-key, total-append}
-use Rattle.run_laws.proofs.Quiet.{each-line}
-use Rattle.run_laws.proofs.Lines.{line_in, number_of, Rises-lines, line_at-same, line_at-other, with_replies-append, lines_of_run}
-use Rattle.run_laws.proofs.Settled.{standing, settled, settled-is, due-rise}
-use Rattle.run_laws.proofs.Turn.{IsOpen, by_number}
-use Rattle.run_laws.proofs.Alive.{IsOpened, begin-opens, done-opens, closed-event, alive-step, opening-alive, alive}
+use Rattle.run_laws.proofs.Keyed.{item_at-key, total-append, all-found}
+use Rattle.run_laws.proofs.Lines.{line_in, number_of, Rises-lines, line_at-same, line_at-other, with_replies-append, lines_of_run, each-line, each-map}
+use Rattle.run_laws.proofs.Settled.{settled, settled-is, due-rise, First, Stops, Answers, Passes, first}
+use Rattle.run_laws.proofs.Writers.{stands_as}
+use Rattle.run_laws.proofs.Turn.{by_number}
+use Rattle.run_laws.proofs.Opened.{IsOpened, IsHeard}
+use Rattle.run_laws.proofs.Steps.{StepIs, LineStep, WriterStep, TakeStep, step-is}
+use Rattle.run_laws.proofs.Alive.{lines_behind, stepped, alive-step, opening-alive, alive}
+use Rattle.run_laws.proofs.Own.{OwnIs, NoOwn, OneOwn, own-is}
 
 -- how a line stands after a change, and which begins and replies the change counts
 record Moves (m : ℕ) (begun replied : ℕ) (before behind : List Standing) : Type 0 where
@@ -59,30 +57,32 @@ moves-past m s replied before behind none moves = go (s.line.number == m) refl
     go true is = let zero_is : replied ≡ 0 = none (eqb-true s.line.number m is) in record { begun_is = rw is (omega arith); replied_is = rw is (omega arith) }
     go false is = record { begun_is = rw is moves.begun_is; replied_is = rw is moves.replied_is }
 
-settled-moves-cons : (m number actor : ℕ) (request : Request) (phase : Phase) (lines : List Standing) → Rises reply_line number (due_awaits lines) → Moves m 0 (total (replies_to m) (due_awaits lines)) lines (settled lines) → Moves m 0 (total (replies_to m) (due_awaits (standing number actor request phase ∷ lines))) (standing number actor request phase ∷ lines) (settled (standing number actor request phase ∷ lines))
-settled-moves-cons m number actor request Waiting lines r moves = no-move m (standing number actor request Waiting ∷ lines)
-settled-moves-cons m number actor (Put key content) (Begun heard) lines r moves = no-move m (standing number actor (Put key content) (Begun heard) ∷ lines)
-settled-moves-cons m number actor Await (Begun heard) lines r moves = go (number == m) refl
-  where
-    go : (b : Bool) → (number == m) ≡ b → Moves m 0 (total (replies_to m) (due_awaits (standing number actor Await (Begun heard) ∷ lines))) (standing number actor Await (Begun heard) ∷ lines) (standing number actor Await Replied ∷ settled lines)
-    go true is =
-        let same : number ≡ m = eqb-true number m is in
-        let none = no-replies m number (due_awaits lines) (omega arith) r in
-        record { begun_is = rw is refl; replied_is = rw is (omega arith) }
-    go false is = record { begun_is = rw is moves.begun_is; replied_is = rw is (let more = moves.replied_is in omega arith) }
-settled-moves-cons m number actor (Stat path) (Begun heard) lines r moves = no-move m (standing number actor (Stat path) (Begun heard) ∷ lines)
-settled-moves-cons m number actor (OpenRead name path) (Begun heard) lines r moves = no-move m (standing number actor (OpenRead name path) (Begun heard) ∷ lines)
-settled-moves-cons m number actor (Read name offset count) (Begun heard) lines r moves = no-move m (standing number actor (Read name offset count) (Begun heard) ∷ lines)
-settled-moves-cons m number actor (Close name) (Begun heard) lines r moves = no-move m (standing number actor (Close name) (Begun heard) ∷ lines)
-settled-moves-cons m number actor (Delete key) (Begun heard) lines r moves = no-move m (standing number actor (Delete key) (Begun heard) ∷ lines)
-settled-moves-cons m number actor (MakeDir path) (Begun heard) lines r moves = no-move m (standing number actor (MakeDir path) (Begun heard) ∷ lines)
-settled-moves-cons m number actor (RemoveDir path) (Begun heard) lines r moves = no-move m (standing number actor (RemoveDir path) (Begun heard) ∷ lines)
-settled-moves-cons m number actor (Unlink path) (Begun heard) lines r moves = no-move m (standing number actor (Unlink path) (Begun heard) ∷ lines)
-settled-moves-cons m number actor request Replied lines r moves = moves-past m (standing number actor request Replied) (total (replies_to m) (due_awaits lines)) lines (settled lines) (λ same. no-replies m number (due_awaits lines) (omega arith) r) moves
-
 settled-moves : (m above : ℕ) (lines : List Standing) → Rises number_of above lines → Moves m 0 (total (replies_to m) (due_awaits lines)) lines (settled lines)
 settled-moves m above [] r = record { begun_is = refl; replied_is = refl }
-settled-moves m above (s ∷ lines) r = settled-moves-cons m s.line.number s.line.actor s.line.request s.phase lines (due-rise s.line.number lines r.1) (settled-moves m s.line.number lines r.1)
+settled-moves m above (s ∷ lines) r = go (first s lines) (settled-moves m s.line.number lines r.1)
+  where
+    dues : List Answered
+    dues = due_awaits lines
+
+    rise : Rises reply_line s.line.number dues
+    rise = due-rise s.line.number lines r.1
+
+    by : (replies : List Answered) (behind : List Standing) → due_awaits (s ∷ lines) ≡ replies → settled (s ∷ lines) ≡ behind → Moves m 0 (total (replies_to m) replies) (s ∷ lines) behind → Moves m 0 (total (replies_to m) (due_awaits (s ∷ lines))) (s ∷ lines) (settled (s ∷ lines))
+    by replies behind due same moves = subst (λ (t : List Answered). Moves m 0 (total (replies_to m) t) (s ∷ lines) (settled (s ∷ lines))) (sym due) (subst (λ (t : List Standing). Moves m 0 (total (replies_to m) replies) (s ∷ lines) t) (sym same) moves)
+
+    go : First s lines → Moves m 0 (total (replies_to m) dues) lines (settled lines) → Moves m 0 (total (replies_to m) (due_awaits (s ∷ lines))) (s ∷ lines) (settled (s ∷ lines))
+    go (Stops due same) moves = by [] (s ∷ lines) due same (no-move m (s ∷ lines))
+    go (Answers heard begun awaits due same) moves = by _ _ due same (here (s.line.number == m) refl)
+      where
+        here : (b : Bool) → (s.line.number == m) ≡ b → Moves m 0 (total (replies_to m) (record { line = s.line.number; reply = reply.Success } ∷ dues)) (s ∷ lines) (record { line = s.line; phase = Replied } ∷ settled lines)
+        here true is =
+            let same_number : s.line.number ≡ m = eqb-true s.line.number m is in
+            let none = no-replies m s.line.number dues (omega arith) rise in
+            let old_begun : begun_in s.phase ≡ 1 = ap begun_in begun in
+            let old_replied : replied_in s.phase ≡ 0 = ap replied_in begun in
+            record { begun_is = rw is (omega arith); replied_is = rw is (omega arith) }
+        here false is = record { begun_is = rw is moves.begun_is; replied_is = rw is (let more = moves.replied_is in omega arith) }
+    go (Passes replied due same) moves = by dues (s ∷ settled lines) due same (moves-past m s (total (replies_to m) dues) lines (settled lines) (λ same_number. no-replies m s.line.number dues (omega arith) rise) moves)
 
 due-moves : (m : ℕ) (lines : List Standing) → AreRising 0 (map line_in lines) → Moves m 0 (total (replies_to m) (due_awaits lines)) lines (with_replies lines (due_awaits lines))
 due-moves m lines rising =
@@ -91,6 +91,9 @@ due-moves m lines rising =
 
 -- the event
 
+old-replied : (old : Phase) → (old ≡ Waiting) ⊎ ((before : Heard) × (old ≡ Begun before)) → replied_in old ≡ 0
+old-replied old unanswered = elim unanswered [ inl waits ↦ ap replied_in waits | inr begun ↦ ap replied_in begun.1 ]
+
 begun-moves : (state : ClientState) (event : Event) → (opened : IsOpened state event) → (m : ℕ) → Moves m (begins m event) 0 state.lines (lines_at state.lines state.jobs event)
 begun-moves state event opened = by_number opened.n (λ m. Moves m (begins m event) 0 state.lines (lines_at state.lines state.jobs event))
     (let old_begun : for_phase begun_in (line_at opened.n state.lines) ≡ begun_in opened.old = ap (for_phase begun_in) opened.found in
@@ -98,7 +101,7 @@ begun-moves state event opened = by_number opened.n (λ m. Moves m (begins m eve
     let new_begun : for_phase begun_in (line_at opened.n (lines_at state.lines state.jobs event)) ≡ 1 = ap (for_phase begun_in) opened.now.stands in
     let new_replied : for_phase replied_in (line_at opened.n (lines_at state.lines state.jobs event)) ≡ 0 = ap (for_phase replied_in) opened.now.stands in
     let own = opened.begins_own in
-    let none = opened.unanswered in
+    let none = old-replied opened.old opened.unanswered in
     record { begun_is = omega arith; replied_is = omega arith })
     (λ m apart.
     let same : line_at m (lines_at state.lines state.jobs event) ≡ line_at m state.lines = ap (line_at m) opened.lines_are ∙ line_at-other opened.n m opened.goes state.lines apart in
@@ -107,13 +110,21 @@ begun-moves state event opened = by_number opened.n (λ m. Moves m (begins m eve
     let same_replied : for_phase replied_in (line_at m (lines_at state.lines state.jobs event)) ≡ for_phase replied_in (line_at m state.lines) = ap (for_phase replied_in) same in
     record { begun_is = omega arith; replied_is = omega arith })
 
+heard-moves : (state : ClientState) (event : Event) → IsHeard state event → (m : ℕ) → Moves m (begins m event) 0 state.lines (lines_at state.lines state.jobs event)
+heard-moves state event heard m = let none = heard.begins_none m in subst (λ (t : List Standing). Moves m (begins m event) 0 state.lines t) (sym heard.lines_are) (record { begun_is = omega arith; replied_is = omega arith })
+
+event-moves : (state : ClientState) (step : Step) (own : List Answered) (m : ℕ) → StepIs state step own → Moves m (begins m step.event) 0 state.lines (lines_at state.lines state.jobs step.event)
+event-moves state step own m (LineStep opened ended) = begun-moves state step.event opened m
+event-moves state step own m (WriterStep heard takes) = heard-moves state step.event heard m
+event-moves state step own m (TakeStep number time from is found no_asks no_own no_drops) = subst (λ (e : Event). Moves m (begins m e) 0 state.lines (lines_at state.lines state.jobs e)) (sym is) (no-move m state.lines)
+
 -- the own reply
 
-own-moves : (n : ℕ) (line : Line) (heard : Heard) (lines : List Standing) (jobs : List Job) (said : Reply) → IsOpen n line heard lines jobs → (m : ℕ) → Moves m 0 (total (replies_to m) (record { line = n; reply = said } ∷ [])) lines (change_line n (λ phase. Replied) lines)
-own-moves n line heard lines jobs said opened = by_number n (λ m. Moves m 0 (total (replies_to m) (record { line = n; reply = said } ∷ [])) lines (change_line n (λ phase. Replied) lines))
-    (let new = line_at-same n (λ phase. Replied) lines (record { line = line; phase = Begun heard }) opened.stands in
-    let old_begun : for_phase begun_in (line_at n lines) ≡ 1 = ap (for_phase begun_in) opened.stands in
-    let old_replied : for_phase replied_in (line_at n lines) ≡ 0 = ap (for_phase replied_in) opened.stands in
+own-moves : (n : ℕ) (line : Line) (heard : Heard) (lines : List Standing) (said : Reply) → line_at n lines ≡ stands_as line (Begun heard) → (m : ℕ) → Moves m 0 (total (replies_to m) (record { line = n; reply = said } ∷ [])) lines (change_line n (λ phase. Replied) lines)
+own-moves n line heard lines said stands = by_number n (λ m. Moves m 0 (total (replies_to m) (record { line = n; reply = said } ∷ [])) lines (change_line n (λ phase. Replied) lines))
+    (let new = line_at-same n (λ phase. Replied) lines (record { line = line; phase = Begun heard }) stands in
+    let old_begun : for_phase begun_in (line_at n lines) ≡ 1 = ap (for_phase begun_in) stands in
+    let old_replied : for_phase replied_in (line_at n lines) ≡ 0 = ap (for_phase replied_in) stands in
     let new_begun : for_phase begun_in (line_at n (change_line n (λ phase. Replied) lines)) ≡ 1 = ap (for_phase begun_in) new in
     let new_replied : for_phase replied_in (line_at n (change_line n (λ phase. Replied) lines)) ≡ 1 = ap (for_phase replied_in) new in
     let same : (n == n) ≡ true = eq-eqb n n refl in
@@ -127,44 +138,21 @@ own-moves n line heard lines jobs said opened = by_number n (λ m. Moves m 0 (to
     let none : replies_to m (record { line = n; reply = said }) ≡ 0 = rw other refl in
     record { begun_is = omega arith; replied_is = omega arith })
 
-turn-moves : (n count : ℕ) (owner : Owner) (view : View) (line : Line) (heard : Heard) (lines : List Standing) (jobs : List Job) (asks : List Ask) (own : List Answered) → IsOpen n line heard lines jobs → TakesTurn count (TurnOf n owner (next_of view line.request heard)) asks own → (m : ℕ) → Moves m 0 (total (replies_to m) own) lines (with_replies lines own)
-turn-moves n count owner view line heard lines jobs asks own opened turn m = go (next_of view line.request heard) turn
-  where
-    moves_by : (replied : List Answered) → own ≡ replied → Moves m 0 (total (replies_to m) replied) lines (with_replies lines replied) → Moves m 0 (total (replies_to m) own) lines (with_replies lines own)
-    moves_by replied e moves = subst (λ (t : List Answered). Moves m 0 (total (replies_to m) t) lines (with_replies lines t)) (sym e) moves
-
-    go : (next : Next) → TakesTurn count (TurnOf n owner next) asks own → Moves m 0 (total (replies_to m) own) lines (with_replies lines own)
-    go (Asks called) (inl t) = moves_by [] t.1 (no-move m lines)
-    go (Asks called) (inr t) = moves_by _ t.1 (own-moves n line heard lines jobs (reply.Failed Enomem) opened m)
-    go (Replies said) t = moves_by _ t.1 (own-moves n line heard lines jobs said opened m)
-    go (Makes key) (inl t) = moves_by _ t.1 (own-moves n line heard lines jobs reply.Success opened m)
-    go (Makes key) (inr t) = moves_by _ t.1 (own-moves n line heard lines jobs (reply.Failed Enomem) opened m)
-    go (Removes key) t = moves_by _ t.1 (own-moves n line heard lines jobs reply.Success opened m)
-    go (Opens version) (inl t) = moves_by _ t.1 (own-moves n line heard lines jobs (reply.Open version.size) opened m)
-    go (Opens version) (inr t) = moves_by _ t.1 (own-moves n line heard lines jobs (reply.Failed Enomem) opened m)
-    go (Gives count) t = moves_by _ t.2.1 (own-moves n line heard lines jobs (reply.Data t.0) opened m)
-    go Waits t = moves_by [] t.1 (no-move m lines)
+turn-moves : (state : ClientState) (event : Event) (own : List Answered) (m : ℕ) → OwnIs state event own → Moves m 0 (total (replies_to m) own) (lines_at state.lines state.jobs event) (with_replies (lines_at state.lines state.jobs event) own)
+turn-moves state event own m (NoOwn none) = subst (λ (t : List Answered). Moves m 0 (total (replies_to m) t) (lines_at state.lines state.jobs event) (with_replies (lines_at state.lines state.jobs event) t)) (sym none) (no-move m (lines_at state.lines state.jobs event))
+turn-moves state event own m (OneOwn n line heard said one stands no_await same is_said whose) = subst (λ (t : List Answered). Moves m 0 (total (replies_to m) t) (lines_at state.lines state.jobs event) (with_replies (lines_at state.lines state.jobs event) t)) (sym one) (own-moves n line heard (lines_at state.lines state.jobs event) said stands m)
 
 -- a step
 
 moves-then : (m begun first second : ℕ) (before between behind : List Standing) → Moves m begun first before between → Moves m 0 second between behind → Moves m begun (first + second) before behind
 moves-then m begun first second before between behind f s = let f1 = f.begun_is in let f2 = f.replied_is in let s1 = s.begun_is in let s2 = s.replied_is in record { begun_is = omega arith; replied_is = omega arith }
 
-opened-moves : (state : ClientState) (event : Event) (asks : List Ask) (own : List Answered) (m : ℕ) → IsOpened state event → TakesTurn (length state.jobs + 1) (turn_at state event) asks own → Moves m (begins m event) (0 + total (replies_to m) own) state.lines (with_replies (lines_at state.lines state.jobs event) own)
-opened-moves state event asks own m opened takes = moves-then m (begins m event) 0 (total (replies_to m) own) state.lines (lines_at state.lines state.jobs event) (with_replies (lines_at state.lines state.jobs event) own) (begun-moves state event opened m)
-    (turn-moves opened.n (length state.jobs + 1) opened.owner (view_of state.shared opened.line) opened.line opened.heard (lines_at state.lines state.jobs event) _ asks own opened.now (subst (λ (t : Turn). TakesTurn (length state.jobs + 1) t asks own) opened.turn takes) m)
-
-event-moves : (state : ClientState) (event : Event) (asks : List Ask) (own : List Answered) (m : ℕ) → IsAlive state → MayCome state event → TakesTurn (length state.jobs + 1) (turn_at state event) asks own → Moves m (begins m event) (0 + total (replies_to m) own) state.lines (with_replies (lines_at state.lines state.jobs event) own)
-event-moves state (Begin n time) asks own m alive may takes = opened-moves state (Begin n time) asks own m (begin-opens state n time alive may.1) takes
-event-moves state (Take number time from) asks own m alive may takes = subst (λ (t : List Answered). Moves m 0 (0 + total (replies_to m) t) state.lines (with_replies state.lines t)) (sym takes.1) (no-move m state.lines)
-event-moves state (Done number position answer) asks own m alive may takes = opened-moves state (Done number position answer) asks own m (done-opens state number position answer alive may) takes
-
 step-moves : (state : ClientState) (step : Step) (m : ℕ) → IsAlive state → IsLegalStep state step → Moves m (begins m step.event) (total (replies_to m) step.replies) state.lines (after state step).lines
 step-moves state step m alive legal =
     let event_lines : List Standing = lines_at state.lines state.jobs step.event in
-    let lines : List Standing = with_replies event_lines legal.own in
-    let closed = closed-event state step.event step.asks legal.own alive legal.may_come legal.turn in
-    let first = event-moves state step.event step.asks legal.own m alive legal.may_come legal.turn in
+    let lines : List Standing = lines_behind state step legal.own in
+    let closed = (stepped state step alive legal).closed in
+    let first = moves-then m (begins m step.event) 0 (total (replies_to m) legal.own) state.lines event_lines lines (event-moves state step legal.own m (step-is state step alive legal)) (turn-moves state step.event legal.own m (own-is state step alive legal)) in
     let both = moves-then m (begins m step.event) (0 + total (replies_to m) legal.own) (total (replies_to m) (due_awaits lines)) state.lines lines (with_replies lines (due_awaits lines)) first (due-moves m lines closed.rising) in
     let same : with_replies event_lines step.replies ≡ with_replies lines (due_awaits lines) = ap (with_replies event_lines) legal.replies ∙ with_replies-append event_lines legal.own (due_awaits lines) in
     let count : total (replies_to m) step.replies ≡ total (replies_to m) legal.own + total (replies_to m) (due_awaits lines) = ap (total (replies_to m)) legal.replies ∙ total-append (replies_to m) legal.own (due_awaits lines) in
@@ -195,16 +183,16 @@ opening-none count none m options (line ∷ script) = go (line.number == m) (ope
     go true e = none
     go false e = e
 
-pub begun_once : (options : Opts) (script : List Line) (steps : List Step) (m : ℕ) → AreRising 0 script → IsRunSoFar options script steps → begins_in m steps ≡ for_phase begun_in (line_at m (state_after options script steps).lines)
-begun_once options script steps m rising run =
-    let moves = steps-move (opening options script) steps m (opening-alive options script rising) run in
+pub begun_once : (options : Opts) (script : List Line) (steps : List Step) (m : ℕ) → AreWithin options → AreRising 0 script → IsRunSoFar options script steps → begins_in m steps ≡ for_phase begun_in (line_at m (state_after options script steps).lines)
+begun_once options script steps m within rising run =
+    let moves = steps-move (opening options script) steps m (opening-alive options script within rising) run in
     let none = opening-none begun_in refl m options script in
     let is = moves.begun_is in
     omega arith
 
-pub replied_once : (options : Opts) (script : List Line) (steps : List Step) (m : ℕ) → AreRising 0 script → IsRunSoFar options script steps → replies_in m steps ≡ for_phase replied_in (line_at m (state_after options script steps).lines)
-replied_once options script steps m rising run =
-    let moves = steps-move (opening options script) steps m (opening-alive options script rising) run in
+pub replied_once : (options : Opts) (script : List Line) (steps : List Step) (m : ℕ) → AreWithin options → AreRising 0 script → IsRunSoFar options script steps → replies_in m steps ≡ for_phase replied_in (line_at m (state_after options script steps).lines)
+replied_once options script steps m within rising run =
+    let moves = steps-move (opening options script) steps m (opening-alive options script within rising) run in
     let none = opening-none replied_in refl m options script in
     let is = moves.replied_is in
     omega arith
@@ -212,45 +200,32 @@ replied_once options script steps m rising run =
 -- at most once, and no reply before the beginning
 
 phase-most : (phase : Phase) → (replied_in phase ≤ begun_in phase) × (begun_in phase ≤ 1)
-phase-most Waiting = omega arith
-phase-most (Begun heard) = omega arith
-phase-most Replied = omega arith
+phase-most Waiting = (omega arith, omega arith)
+phase-most other = (omega arith, omega arith)
 
 most : (o : Option Standing) → (for_phase replied_in o ≤ for_phase begun_in o) × (for_phase begun_in o ≤ 1)
-most None = omega arith
+most None = (omega arith, omega arith)
 most (Some s) = phase-most s.phase
 
-pub begins_once : (options : Opts) (script : List Line) (steps : List Step) (m : ℕ) → AreRising 0 script → IsRunSoFar options script steps → begins_in m steps ≤ 1
-begins_once options script steps m rising run = let is = begun_once options script steps m rising run in let bound = most (line_at m (state_after options script steps).lines) in omega arith
+pub begins_once : (options : Opts) (script : List Line) (steps : List Step) (m : ℕ) → AreWithin options → AreRising 0 script → IsRunSoFar options script steps → begins_in m steps ≤ 1
+begins_once options script steps m within rising run = let is = begun_once options script steps m within rising run in let bound = most (line_at m (state_after options script steps).lines) in omega arith
 
-pub replies_behind : (options : Opts) (script : List Line) (steps : List Step) (m : ℕ) → AreRising 0 script → IsRunSoFar options script steps → replies_in m steps ≤ begins_in m steps
-replies_behind options script steps m rising run =
-    let is = begun_once options script steps m rising run in
-    let said = replied_once options script steps m rising run in
+pub replies_behind : (options : Opts) (script : List Line) (steps : List Step) (m : ℕ) → AreWithin options → AreRising 0 script → IsRunSoFar options script steps → replies_in m steps ≤ begins_in m steps
+replies_behind options script steps m within rising run =
+    let is = begun_once options script steps m within rising run in
+    let said = replied_once options script steps m within rising run in
     let bound = most (line_at m (state_after options script steps).lines) in
     omega arith
 
 -- in a whole run each line has one reply
 
-pub found-one : (P : Standing → Type 0) (m : ℕ) (lines : List Standing) (s : Standing) → AllByRecursion P lines → line_at m lines ≡ Some s → P s
-found-one P m [] s all e = absurd (cc)
-found-one P m (first ∷ lines) s all e = go (first.line.number == m) e (found-one P m lines s all.1)
-  where
-    go : (b : Bool) → cond b (Some first) (line_at m lines) ≡ Some s → (line_at m lines ≡ Some s → P s) → P s
-    go true e ih = let same : first ≡ s = cc in subst P same all.0
-    go false e ih = ih e
-
-pub each-map : (P : Line → Type 0) (lines : List Standing) → AllByRecursion (λ s. P s.line) lines → AllByRecursion P (map line_in lines)
-each-map P [] all = tt
-each-map P (s ∷ lines) all = (all.0, each-map P lines all.1)
-
-pub each_replied : (options : Opts) (script : List Line) (steps : List Step) → AreRising 0 script → IsRun options script steps → AllByRecursion (λ line. replies_in line.number steps ≡ 1) script
-each_replied options script steps rising run =
+pub each_replied : (options : Opts) (script : List Line) (steps : List Step) → AreWithin options → AreRising 0 script → IsRun options script steps → AllByRecursion (λ line. replies_in line.number steps ≡ 1) script
+each_replied options script steps within rising run =
     let lines : List Standing = (state_after options script steps).lines in
-    let is_alive = alive options script steps rising run.so_far in
+    let is_alive = alive options script steps within rising run.so_far in
     let one : (n : ℕ) (s : Standing) → line_at n lines ≡ Some s → replies_in s.line.number steps ≡ 1 = λ n s e.
     let number : s.line.number ≡ n = item_at-key number_of n lines s e in
-    let replied : s.phase ≡ Replied = found-one (λ s. s.phase ≡ Replied) n lines s run.quiet.answered e in
-    ap (λ (k : ℕ). replies_in k steps) number ∙ replied_once options script steps n rising run.so_far ∙ ap (for_phase replied_in) e ∙ ap replied_in replied in
+    let replied : s.phase ≡ Replied = all-found number_of (λ s. s.phase ≡ Replied) n lines s run.quiet.answered e in
+    ap (λ (k : ℕ). replies_in k steps) number ∙ replied_once options script steps n within rising run.so_far ∙ ap (for_phase replied_in) e ∙ ap replied_in replied in
     subst (λ (t : List Line). AllByRecursion (λ line. replies_in line.number steps ≡ 1) t) (lines_of_run options script steps)
     (each-map (λ line. replies_in line.number steps ≡ 1) lines (each-line (λ s. replies_in s.line.number steps ≡ 1) 0 lines (Rises-lines 0 lines is_alive.rising) one))

@@ -1,7 +1,7 @@
 -- Each actor does one thing at a time, and which lines may begin.
-use Rattle.std.proofs.Common.{◌≡◌, ℕ, ◌<◌, List, [], ◌∷◌, cond, Bool, true, false, ◌||◌, ◌==◌, if◌then◌else◌, Some, refl, sym, ap, ◌∙◌, arith, eqb-true, ne_eqb, subst, eq-eqb}
+use Rattle.std.proofs.Common.{◌≡◌, ◌≢◌, ℕ, ◌<◌, List, [], ◌∷◌, cond, Bool, true, false, ◌||◌, ◌==◌, if◌then◌else◌, Some, refl, sym, ap, ◌∙◌, arith, eqb-true, ne_eqb, subst, eq-eqb}
 use Rattle.mount_model.specs.declared.request.Request.{Request}
-use Rattle.mount_model.specs.declared.request.Request.TheVariants.{Put, Await, Stat, OpenRead, Read, Close, Delete, MakeDir, RemoveDir, Unlink}
+use Rattle.mount_model.specs.declared.request.Request.TheVariants.{Await}
 use Rattle.mount_model.specs.declared.request.Line.{Line}
 use Rattle.mount_model.specs.declared.standing.Heard.{Heard}
 use Rattle.mount_model.specs.declared.standing.Phase.{Phase}
@@ -105,16 +105,8 @@ orderly-replied above n busy (first ∷ lines) s heard r stands is o = go (first
 -- once the awaits that are due have their replies
 orderly-settled-cons : (busy : List ℕ) (number actor : ℕ) (request : Request) (phase : Phase) (lines : List Standing) → ((busy : List ℕ) → AreOrderly busy lines → AreOrderly busy (settled lines)) → AreOrderly busy (standing number actor request phase ∷ lines) → AreOrderly busy (settled (standing number actor request phase ∷ lines))
 orderly-settled-cons busy number actor request Waiting lines ih o = o
-orderly-settled-cons busy number actor (Put key content) (Begun heard) lines ih o = o
 orderly-settled-cons busy number actor Await (Begun heard) lines ih o = (o.0, orderly-fewer (settled lines) (actor ∷ busy) busy (Frees-first actor busy) (ih (actor ∷ busy) o.1))
-orderly-settled-cons busy number actor (Stat path) (Begun heard) lines ih o = o
-orderly-settled-cons busy number actor (OpenRead name path) (Begun heard) lines ih o = o
-orderly-settled-cons busy number actor (Read name offset count) (Begun heard) lines ih o = o
-orderly-settled-cons busy number actor (Close name) (Begun heard) lines ih o = o
-orderly-settled-cons busy number actor (Delete key) (Begun heard) lines ih o = o
-orderly-settled-cons busy number actor (MakeDir path) (Begun heard) lines ih o = o
-orderly-settled-cons busy number actor (RemoveDir path) (Begun heard) lines ih o = o
-orderly-settled-cons busy number actor (Unlink path) (Begun heard) lines ih o = o
+orderly-settled-cons busy number actor other (Begun heard) lines ih o = o
 orderly-settled-cons busy number actor request Replied lines ih o = (o.0, ih busy o.1)
 
 pub orderly-settled : (lines : List Standing) (busy : List ℕ) → AreOrderly busy lines → AreOrderly busy (settled lines)
@@ -183,3 +175,57 @@ orderly-begun above n more less (s ∷ lines) r f e o = go (starts n more s.line
         let past : s.line.number < n = startable-above s.line.number n now lines r.1 later in
         let other : (s.line.number == n) ≡ false = ne_eqb s.line.number n (omega arith) in
         rw other (orderly-tail less s lines (change_line n (λ phase. Begun nothing_heard) lines) (ih now later (g less f)) o)
+
+-- two lines that have begun are of two processes
+
+orderly-first : (busy : List ℕ) (line : Line) (phase : Phase) (heard : Heard) (lines : List Standing) → phase ≡ Begun heard → AreOrderly busy (record { line = line; phase = phase } ∷ lines) → is_among line.actor busy ≡ false
+orderly-first busy line Waiting heard lines is o = absurd (cc)
+orderly-first busy line (Begun others) heard lines is o = o.0
+orderly-first busy line Replied heard lines is o = absurd (cc)
+
+orderly-rest : (busy : List ℕ) (line : Line) (phase : Phase) (lines : List Standing) → AreOrderly busy (record { line = line; phase = phase } ∷ lines) → AreOrderly (busy_below phase line.actor busy) lines
+orderly-rest busy line Waiting lines o = o
+orderly-rest busy line (Begun heard) lines o = o.1
+orderly-rest busy line Replied lines o = o.1
+
+free-above : (busy : List ℕ) (phase : Phase) (actor other : ℕ) → is_among other (busy_below phase actor busy) ≡ false → is_among other busy ≡ false
+free-above busy Waiting actor other free = (Frees-first actor busy).free other free
+free-above busy (Begun heard) actor other free = (Frees-first actor busy).free other free
+free-above busy Replied actor other free = free
+
+orderly-free : (busy : List ℕ) (n : ℕ) (lines : List Standing) (s : Standing) (heard : Heard) → AreOrderly busy lines → line_at n lines ≡ Some s → s.phase ≡ Begun heard → is_among s.line.actor busy ≡ false
+orderly-free busy n [] s heard o stands is = absurd (cc)
+orderly-free busy n (first ∷ lines) s heard o stands is = go (first.line.number == n) stands (λ later. orderly-free (busy_below first.phase first.line.actor busy) n lines s heard (orderly-rest busy first.line first.phase lines o) later is)
+  where
+    go : (b : Bool) → cond b (Some first) (line_at n lines) ≡ Some s → (line_at n lines ≡ Some s → is_among s.line.actor (busy_below first.phase first.line.actor busy) ≡ false) → is_among s.line.actor busy ≡ false
+    go true stands ih =
+        let same : first ≡ s = cc in
+        let begun : first.phase ≡ Begun heard = ap (λ (t : Standing). t.phase) same ∙ is in
+        let free : is_among first.line.actor busy ≡ false = orderly-first busy first.line first.phase heard lines begun o in
+        subst (λ (t : Standing). is_among t.line.actor busy ≡ false) same free
+    go false stands ih = free-above busy first.phase first.line.actor s.line.actor (ih stands)
+
+-- of a line that has begun and one further down
+apart-below : (busy : List ℕ) (m : ℕ) (first : Standing) (lines : List Standing) (t : Standing) (a b : Heard) → AreOrderly busy (first ∷ lines) → first.phase ≡ Begun a → line_at m lines ≡ Some t → t.phase ≡ Begun b → first.line.actor ≢ t.line.actor
+apart-below busy m first lines t a b o begun stands is e =
+    let rest = orderly-rest busy first.line first.phase lines o in
+    let busy_now : busy_below first.phase first.line.actor busy ≡ first.line.actor ∷ busy = ap (λ (p : Phase). busy_below p first.line.actor busy) begun in
+    let free = subst (λ (x : List ℕ). is_among t.line.actor x ≡ false) busy_now (orderly-free (busy_below first.phase first.line.actor busy) m lines t b rest stands is) in
+    let same : (first.line.actor == t.line.actor) ≡ true = eq-eqb first.line.actor t.line.actor e in
+    let clash : (first.line.actor == t.line.actor || is_among t.line.actor busy) ≡ true = rw same refl in
+    absurd (cc)
+
+pub orderly-apart : (busy : List ℕ) (n m : ℕ) (lines : List Standing) (s t : Standing) (a b : Heard) → n ≢ m → AreOrderly busy lines → line_at n lines ≡ Some s → s.phase ≡ Begun a → line_at m lines ≡ Some t → t.phase ≡ Begun b → s.line.actor ≢ t.line.actor
+orderly-apart busy n m [] s t a b apart o at_n is_n at_m is_m = absurd (cc)
+orderly-apart busy n m (first ∷ lines) s t a b apart o at_n is_n at_m is_m = go (first.line.number == n) (first.line.number == m) refl refl at_n at_m (λ later_n later_m. orderly-apart (busy_below first.phase first.line.actor busy) n m lines s t a b apart (orderly-rest busy first.line first.phase lines o) later_n is_n later_m is_m)
+  where
+    go : (c d : Bool) → (first.line.number == n) ≡ c → (first.line.number == m) ≡ d → cond c (Some first) (line_at n lines) ≡ Some s → cond d (Some first) (line_at m lines) ≡ Some t → (line_at n lines ≡ Some s → line_at m lines ≡ Some t → s.line.actor ≢ t.line.actor) → s.line.actor ≢ t.line.actor
+    go true true here there at_n at_m ih = absurd (apart (sym (eqb-true first.line.number n here) ∙ eqb-true first.line.number m there))
+    go true false here there at_n at_m ih =
+        let same : first ≡ s = cc in
+        subst (λ (x : Standing). x.line.actor ≢ t.line.actor) same (apart-below busy m first lines t a b o (ap (λ (x : Standing). x.phase) same ∙ is_n) at_m is_m)
+    go false true here there at_n at_m ih =
+        let same : first ≡ t = cc in
+        let actors : t.line.actor ≢ s.line.actor = subst (λ (x : Standing). x.line.actor ≢ s.line.actor) same (apart-below busy n first lines s b a o (ap (λ (x : Standing). x.phase) same ∙ is_m) at_n is_n) in
+        λ e. actors (sym e)
+    go false false here there at_n at_m ih = ih at_n at_m

@@ -2,7 +2,7 @@
 use Rattle.std.proofs.Common.{◌≡◌, ℕ, ◌+◌, ◌*◌, ◌<◌, ◌≤◌, List, [], ◌∷◌, ◌++◌, length, find, cond, Bool, true, false, if◌then◌else◌, Option, Some, None, is_some, option_map, refl, ap, ◌∙◌, arith}
 use Rattle.std.proofs.lemmas.Cmp.{nat_list_eq_equiv}
 use Rattle.mp_types.specs.Path.{slash}
-use Rattle.mp_rules.specs.declared.entry.Entry.TheVariants.{RemoteDir, LocalDir, File, Nothing}
+use Rattle.mp_rules.specs.declared.entry.Entry.TheVariants.{RemoteDir, LocalDir, LocalFile, File, Nothing}
 use Rattle.mp_rules.specs.declared.entry.Local.{Local}
 use Rattle.mp_rules.specs.declared.entry.Local.TheVariants as local
 use Rattle.mp_rules.specs.declared.facts.Question.{Question}
@@ -76,7 +76,7 @@ entry-falls facts more local_of question key learned asks = go (facts (Probe key
     no_key : (here : Local) → by_local key here (facts (Head key)) ≡ Need question → open_at more key < open_at facts key
     no_key local.None is = head (facts (Head key)) refl is
     no_key local.Dir is = absurd (cc)
-    no_key local.File is = head (facts (Head key)) refl is
+    no_key (local.File size) is = absurd (cc)
 
     go : (o : Option Fact) → facts (Probe key) ≡ o → by_probe key o (local_of key) (facts (Head key)) ≡ Need question → open_at more key < open_at facts key
     go None unknown is =
@@ -117,6 +117,7 @@ walk-falls facts more local_of question key (name ∷ names) learned asks = go (
         let here = entry-kept facts more question key learned in
         let falls = rest is in
         omega arith
+    go (Is (LocalFile size)) at is rest = absurd (cc)
     go (Is (File etag size)) at is rest = absurd (cc)
     go (Is Nothing) at is rest = absurd (cc)
     go (Refused errno) at is rest = absurd (cc)

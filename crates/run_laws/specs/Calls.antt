@@ -6,13 +6,14 @@ use Rattle.mount_model.specs.declared.standing.Phase.TheVariants.{Waiting, Begun
 use Rattle.mount_model.specs.declared.standing.Standing.{Standing}
 use Rattle.mount_model.specs.Heard.{nothing_heard}
 use Rattle.mount_model.specs.State.{Job}
-use Rattle.run_laws.specs.Alive.{total, if_line}
+use Rattle.run_laws.specs.Counts.{total, if_line}
+use Rattle.run_laws.specs.Alive.{if_of_line}
 use Rattle.run_laws.specs.Work.{calls_left}
 
 abbrev pub job_for : ℕ → Job → ℕ
-job_for number job = if_line number job.line
+job_for number job = if_of_line job.owner (if_line number job.line)
 
--- a line's jobs so far, those that are gone too
+-- a line's own jobs so far, those that are gone too
 abbrev pub jobs_of : ℕ → List Job → ℕ
 jobs_of number jobs = total (job_for number) jobs
 

@@ -1,7 +1,10 @@
+pub mod Counts
+pub mod Uploads
+pub mod Writers
 pub mod Alive
+pub mod Work
 pub mod Calls
+pub mod Served
 pub mod Faithful
 pub mod Once
 pub mod Order
-pub mod Served
-pub mod Work

@@ -15,7 +15,8 @@ asked_job ask = ask.job
 abbrev pub reply_line : Answered → ℕ
 reply_line reply = reply.line
 
--- asks stand by their job, and replies by their line
+-- drops and asks stand by their job, and replies by their line
 pub record IsInOrder (step : Step) : Type 0 where
+  pub drops : Rises (λ job. job) 0 step.drops
   pub asks : Rises asked_job 0 step.asks
   pub replies : Rises reply_line 0 step.replies

@@ -1,7 +1,7 @@
 -- What hides what, by what the bucket answered.
 use Rattle.std.specs.Prelude.{ℕ, Bool, true, false, Option, Some, None}
 use Rattle.mp_rules.specs.declared.entry.Entry.{Entry}
-use Rattle.mp_rules.specs.declared.entry.Entry.TheVariants.{RemoteDir, LocalDir, File, Nothing}
+use Rattle.mp_rules.specs.declared.entry.Entry.TheVariants.{RemoteDir, LocalDir, LocalFile, File, Nothing}
 use Rattle.mp_rules.specs.declared.entry.Kind.{Kind}
 use Rattle.mp_rules.specs.declared.entry.Kind.TheVariants as kind
 use Rattle.mp_rules.specs.declared.facts.Fact.{Fact}
@@ -11,6 +11,7 @@ use Rattle.mp_rules.specs.declared.facts.Fact.TheVariants.{Found, Yes}
 abbrev pub kind_in : Entry → Kind
 kind_in RemoteDir = kind.RemoteDir
 kind_in LocalDir = kind.LocalDir
+kind_in (LocalFile size) = kind.LocalFile
 kind_in (File etag size) = kind.RemoteFile
 kind_in Nothing = kind.Nothing
 

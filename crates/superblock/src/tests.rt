@@ -12,6 +12,15 @@ fn made(alloc: Global, key: &str) -> Result<Locals, Fail> {
     Ok(names)
 }
 
+// One file that is being written, with this many bytes.
+fn written(alloc: Global, key: &str, size: u64) -> Result<Locals, Fail> {
+    let mut names = Locals::new(alloc);
+    let key = Key::parse(alloc, key)?;
+    names.add_file(&key)?;
+    names.resize(key.as_str(), size);
+    Ok(names)
+}
+
 fn probed(alloc: Global, key: &str, fact: Fact) -> Result<Known, Fail> {
     Ok(Known {
         question: Question::Probe(Key::parse(alloc, key)?),
@@ -47,6 +56,10 @@ fn is_remote(decision: Decision) -> bool {
 
 fn is_local(decision: Decision) -> bool {
     matches!(decision, Decision::Is(Entry::LocalDir))
+}
+
+fn is_written(decision: Decision, bytes: u64) -> bool {
+    matches!(decision, Decision::Is(Entry::LocalFile { size }) if size == bytes)
 }
 
 fn is_nothing(decision: Decision) -> bool {
@@ -152,6 +165,38 @@ fn a_remote_directory_hides_a_local_one(rt: HostRuntime) -> Result<(), Fail> {
     let own = OwnFacts::new(rt.alloc());
     let yes = probed(rt.alloc(), "a", Fact::Yes)?;
     assert!(rt; is_remote(decide("a", &names, &own, Some(&yes))));
+    Ok(())
+}
+
+#[test]
+fn a_file_being_written_hides_an_object(rt: HostRuntime) -> Result<(), Fail> {
+    let names = written(rt.alloc(), "a", 7)?;
+    let mut own = OwnFacts::new(rt.alloc());
+    assert!(rt; asks_probe(decide("a", &names, &own, None), "a"));
+    own.add(probed(rt.alloc(), "a", Fact::No)?)?;
+    assert!(rt; is_written(decide("a", &names, &own, None), 7));
+    let file = headed(rt.alloc(), "a", found(5)?)?;
+    assert!(rt; is_written(decide("a", &names, &own, Some(&file)), 7));
+    Ok(())
+}
+
+#[test]
+fn a_remote_directory_hides_a_file_being_written(rt: HostRuntime) -> Result<(), Fail> {
+    let names = written(rt.alloc(), "a", 7)?;
+    let mut own = OwnFacts::new(rt.alloc());
+    own.add(probed(rt.alloc(), "a", Fact::Yes)?)?;
+    assert!(rt; is_remote(decide("a", &names, &own, None)));
+    assert!(rt; asks_probe(decide("a/b", &names, &own, None), "a/b"));
+    Ok(())
+}
+
+#[test]
+fn nothing_is_below_a_file_being_written(rt: HostRuntime) -> Result<(), Fail> {
+    let names = written(rt.alloc(), "a", 7)?;
+    let own = OwnFacts::new(rt.alloc());
+    let no = probed(rt.alloc(), "a", Fact::No)?;
+    assert!(rt; asks_probe(decide("a/b", &names, &own, None), "a"));
+    assert!(rt; refuses(decide("a/b", &names, &own, Some(&no)), Errno::Enotdir));
     Ok(())
 }
 

@@ -45,7 +45,8 @@ fn local_or_file_at<'a>(
 {
     match names.at(key) {
         Local::Dir => Decision::Is(Entry::LocalDir),
-        Local::None | Local::File => file_at(key, own, last, next),
+        Local::File { size } => Decision::Is(Entry::LocalFile { size }),
+        Local::None => file_at(key, own, last, next),
     }
 }
 
@@ -75,7 +76,9 @@ fn stop_above(found: Decision<'_>) -> Option<Decision<'_>>
 {
     match found {
         Decision::Is(Entry::RemoteDir) | Decision::Is(Entry::LocalDir) => None,
-        Decision::Is(Entry::File { .. }) => Some(Decision::Refused(Errno::Enotdir)),
+        Decision::Is(Entry::LocalFile { .. }) | Decision::Is(Entry::File { .. }) => {
+            Some(Decision::Refused(Errno::Enotdir))
+        }
         Decision::Is(Entry::Nothing) => Some(Decision::Refused(Errno::Enoent)),
         open => Some(open),
     }

@@ -15,6 +15,12 @@ returns-clause-stat c = λ path names. walk_calls (path_of path) names
 pub returns-clause-open : goal.returns-clause-open
 returns-clause-open c = λ name path names. walk_calls (path_of path) names
 
+pub returns-clause-open_write : goal.returns-clause-open_write
+returns-clause-open_write c = λ name path names. walk_calls (path_of path) names
+
+pub returns-clause-open_truncate : goal.returns-clause-open_truncate
+returns-clause-open_truncate c = λ name path names. walk_calls (path_of path) names
+
 pub returns-clause-make : goal.returns-clause-make
 returns-clause-make c = λ path names. walk_calls (path_of path) names
 
@@ -29,6 +35,12 @@ returns-clause-faulty c = λ path why. faulty_calls 0 (path_of path) why
 
 pub returns-clause-faulty_open : goal.returns-clause-faulty_open
 returns-clause-faulty_open c = λ name path why. faulty_calls 0 (path_of path) why
+
+pub returns-clause-faulty_open_write : goal.returns-clause-faulty_open_write
+returns-clause-faulty_open_write c = λ name path why. faulty_calls 0 (path_of path) why
+
+pub returns-clause-faulty_open_truncate : goal.returns-clause-faulty_open_truncate
+returns-clause-faulty_open_truncate c = λ name path why. faulty_calls 0 (path_of path) why
 
 pub returns-clause-faulty_make : goal.returns-clause-faulty_make
 returns-clause-faulty_make c = λ path why. faulty_calls 0 (path_of path) why

@@ -1,5 +1,5 @@
 use Rattle.run_laws.proofs.Conversation.{asks_made}
-use Rattle.run_laws.proofs.Faithful.{calls_made}
+use Rattle.run_laws.proofs.Made.{calls_made}
 use Rattle.run_laws.proofs.calls_may_be_made.Goals as goal
 
 pub returns-clause-asked : goal.returns-clause-asked

@@ -1,5 +1,4 @@
-use Rattle.run_laws.proofs.Alive.{work_falls}
-use Rattle.run_laws.proofs.Ends.{run_ends}
+use Rattle.run_laws.proofs.Ends.{work_falls, run_ends}
 use Rattle.run_laws.proofs.each_run_ends.Goals as goal
 
 pub returns-clause-step : goal.returns-clause-step

@@ -30,7 +30,8 @@ loop-held-init g c =
 pub done-requires : goal.done-requires
 done-requires g c =
     let got = c.let_go-got.result in
-    may_done (g.S.Store.history c.loop-held.store) (g.S.Store.position c.loop-held.store) (g.S.Store.position c.args.store.now) (g.S.Store.is_alone c.args.store.now) c.loop-held.held.items got c.loop-held.core c.let_go-got.ensures.with.own c.loop-held.invariant.between
+    let between = c.loop-held.invariant.between in
+    may_done (g.S.Store.history c.loop-held.store) (g.S.Store.position c.loop-held.store) (g.S.Store.position c.args.store.now) (g.S.Store.is_alone c.args.store.now) c.loop-held.held.items got c.loop-held.core c.let_go-got.ensures.with.own (between.owed (c.startable_len-startable.ensures.within, c.startable_len-startable.ensures.rising) got.job got c.let_go-got.ensures.with.own) between
 
 pub loop-held-preserved-then-choice-answers : goal.loop-held-preserved-then-choice-answers
 loop-held-preserved-then-choice-answers g c =
@@ -40,7 +41,7 @@ loop-held-preserved-then-choice-answers g c =
       options = c.done.ensures.options ∙ was.options;
       script = c.done.ensures.script ∙ was.script;
       by_job = c.let_go-got.ensures.by_job;
-      between = at-done (g.S.Store.history c.loop-held.store) (g.S.Store.position c.loop-held.store) (g.S.Store.position c.args.store.now) (g.S.Store.is_alone c.args.store.now) got c.let_go-got.new.held.items c.loop-held.held.items c.loop-held.core c.done.new.self c.done.ensures c.let_go-got.ensures.with was.between;
+      between = at-done (g.S.Store.history c.loop-held.store) (g.S.Store.position c.loop-held.store) (g.S.Store.position c.args.store.now) (g.S.Store.is_alone c.args.store.now) got c.let_go-got.new.held.items c.loop-held.held.items c.loop-held.core c.done.new.self c.done.ensures (was.between.owed (c.startable_len-startable.ensures.within, c.startable_len-startable.ensures.rising) got.job got c.let_go-got.ensures.with.own) c.let_go-got.ensures.with was.between;
       faults = few-done (g.S.Store.faults c.args.store.now) (g.S.Store.faults c.loop-held.store) (bytes_in got.answer) got c.let_go-got.new.held.items c.loop-held.held.items c.loop-held.core c.done.new.self c.done.ensures c.let_go-got.ensures.with was.faults;
       alone = was.alone;
       honest = was.honest;
@@ -53,7 +54,7 @@ call_for-got-requires-clause-ready g c = is_among-place c.in-Some.job _ (ready (
 pub hold-requires-clause-new : goal.hold-requires-clause-new
 hold-requires-clause-new g c =
     let called = c.call_for-got.ensures.called in
-    let none = not_held (g.S.Store.history c.loop-held.store) (g.S.Store.position c.loop-held.store) (g.S.Store.position c.args.store.now) (g.S.Store.is_alone c.args.store.now) c.loop-held.held.items c.in-Some.job c.loop-held.core c.startable_len-startable.ensures.rising (is_among-place c.in-Some.job _ (ready (state_of c.loop-held.core).jobs) c.in-Some.ensures) c.loop-held.invariant.between in
+    let none = not_held (g.S.Store.history c.loop-held.store) (g.S.Store.position c.loop-held.store) (g.S.Store.position c.args.store.now) (g.S.Store.is_alone c.args.store.now) c.loop-held.held.items c.in-Some.job c.loop-held.core (c.startable_len-startable.ensures.within, c.startable_len-startable.ensures.rising) (is_among-place c.in-Some.job _ (ready (state_of c.loop-held.core).jobs) c.in-Some.ensures) c.loop-held.invariant.between in
     rw (called.same, c.reserve.ensures.items) none
 
 pub loop-held-preserved-in-Some : goal.loop-held-preserved-in-Some
@@ -106,7 +107,8 @@ returns-in_default-startable_at-clause-driven g c =
     (rw c.ready_len-ready.ensures (past-none jobs (choice - held) c.in_default.ensures))
     (rw c.startable_len-startable.ensures.value (past-none lines (choice - held - waiting) c.in_default-startable_at.ensures.value)) in
     let empty : c.loop-held.held.items ≡ [] = nothing-is c.loop-held.held.items (omega (arith, none.0, c.len-answers.ensures, c.loop-held.held.ok.0)) in
-    at-end (g.S.Store.history c.loop-held.store) (g.S.Store.position c.loop-held.store) (g.S.Store.position c.args.store.now) (g.S.Store.is_alone c.args.store.now) (g.S.Store.faults c.args.store.now) (g.S.Store.faults c.loop-held.store) c.args.core.options c.args.core.script core was.options was.script c.startable_at.ensures.rising
+    at-end (g.S.Store.history c.loop-held.store) (g.S.Store.position c.loop-held.store) (g.S.Store.position c.args.store.now) (g.S.Store.is_alone c.args.store.now) (g.S.Store.is_honest c.args.store.now) (g.S.Store.faults c.args.store.now) (g.S.Store.faults c.loop-held.store) c.args.core.options c.args.core.script core was.options was.script (c.startable_at.ensures.within, c.startable_at.ensures.rising)
+    (λ honest history is. (g.met.S.Store.honest_is_legal c.loop-held.store history is (was.honest honest)).0)
     (nothing-is jobs (sym c.ready_len-ready.ensures ∙ none.1))
     (nothing-is lines (sym c.startable_len-startable.ensures.value ∙ none.2))
     (few-all (g.S.Store.faults c.args.store.now) (g.S.Store.faults c.loop-held.store) core (subst (λ (held : List HeldAnswer). HasRisenBy (faults_in core.steps + faults_among held) (g.S.Store.faults c.args.store.now) (g.S.Store.faults c.loop-held.store)) empty was.faults))

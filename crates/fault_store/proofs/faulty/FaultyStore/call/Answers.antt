@@ -1,7 +1,11 @@
 use Rattle.std.proofs.Common.{arith}
 use Rattle.fault_store.proofs.Honest.{honest_served}
-use Rattle.fault_store.proofs.Tells.{tells_served, counted_served, faults_served}
+use Rattle.fault_store.proofs.Tells.{kind_served, tells_served, counted_served, faults_served}
 use Rattle.fault_store.proofs.faulty.FaultyStore.call.Goals as goal
+
+pub returns-clause-kind : goal.returns-clause-kind
+returns-clause-kind g c =
+    kind_served g.S.Store.position g.S.Store.history g.S.Store.faults g.S.Store.is_alone g.S.Store.never_fails g.S.Store.is_honest c.args.call c.serve.result c.args.self.now c.serve.new.self c.serve.ensures.served
 
 pub returns-clause-counted : goal.returns-clause-counted
 returns-clause-counted g c counts =

@@ -1,8 +1,9 @@
 -- The job's entry is there with its call, and its number leaves the ready ones with the call.
-use Rattle.std.proofs.Common.{◌≡◌, None, refl, sym, ap, ◌∙◌}
+use Rattle.std.proofs.Common.{◌≡◌, None, sym, ap, ◌∙◌}
 use Rattle.job_table.specs.declared.jobs.Live.{Live}
 use Rattle.job_table.specs.LiveJobs.{Held}
-use Rattle.job_table.proofs.Entries.{entry_stands, entry_is, held_taken, keeps_taken}
+use Rattle.job_table.specs.Kept.{held_entry}
+use Rattle.job_table.proofs.Entries.{with_call, entry_stands, entry_is, held_taken, keeps_taken}
 use Rattle.job_table.proofs.jobs.Jobs.take.Goals as goal
 
 pub unreachable-requires : goal.unreachable-requires
@@ -17,10 +18,10 @@ unreachable-requires-in-None-take c =
 
 pub invariant_of-self : goal.invariant_of-self
 invariant_of-self c =
-    let w : Live = record { line = c.in-Some.live.now.line; call = c.take.new.self; question = c.in-Some.live.now.question } in
-    keeps_taken c.args.job c.self.inside.live.entries _ c.self.inside.ready.keys _ c.self.inside.count c.self.invariant
-    (held_taken c.args.job c.self.inside.live.entries _ c.self.inside.ready.keys c.self.inside.count c.in-Some.live.now w c.self.invariant (sym c.in-Some.ensures.value) (c.get_mut.follows.holds w).0 refl refl c.take.ensures.after)
-    c.remove.ensures.keys
+    let live : Live = c.in-Some.live.now in
+    let left : Live = with_call c.take.new.self live in
+    let held = held_taken c.args.job c.self.inside.live.entries _ c.self.inside.ready c.self.inside.count live left c.self.invariant (sym c.in-Some.ensures.value) (c.get_mut.follows.holds left).0 (ap (λ called. held_entry (c.args.job, with_call called live)) c.take.ensures.after) in
+    keeps_taken c.args.job c.self.inside.live.entries _ c.self.inside.ready c.remove.new.self c.self.inside.count live c.self.invariant held (sym c.in-Some.ensures.value) (record { numbers = c.remove.ensures.numbers; of_writers = c.remove.ensures.of_writers })
 
 pub returns-clause-call : goal.returns-clause-call
 returns-clause-call c = λ h stands.
@@ -29,6 +30,7 @@ returns-clause-call c = λ h stands.
 
 pub returns-clause-held : goal.returns-clause-held
 returns-clause-held c =
-    let w : Live = record { line = c.in-Some.live.now.line; call = c.take.new.self; question = c.in-Some.live.now.question } in
+    let live : Live = c.in-Some.live.now in
+    let left : Live = with_call c.take.new.self live in
     rw (← c.self.view_is)
-    (held_taken c.args.job c.self.inside.live.entries _ c.self.inside.ready.keys c.self.inside.count c.in-Some.live.now w c.self.invariant (sym c.in-Some.ensures.value) (c.get_mut.follows.holds w).0 refl refl c.take.ensures.after)
+    (held_taken c.args.job c.self.inside.live.entries _ c.self.inside.ready c.self.inside.count live left c.self.invariant (sym c.in-Some.ensures.value) (c.get_mut.follows.holds left).0 (ap (λ called. held_entry (c.args.job, with_call called live)) c.take.ensures.after))

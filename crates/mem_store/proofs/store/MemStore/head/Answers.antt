@@ -1,9 +1,10 @@
 use Rattle.std.proofs.Common.{arith}
-use Rattle.mem_store.proofs.Keeps.{head_keeps, head_served}
+use Rattle.mem_store.proofs.Keeps.{keeps, served}
+use Rattle.mem_store.proofs.Heads.{head_answered}
 use Rattle.mem_store.proofs.store.MemStore.head.Goals as goal
 
 pub invariant_of-self-2 : goal.invariant_of-self-2
-invariant_of-self-2 c = head_keeps _ c.self.inside.log.items _ _ c.args.key _ c.self.invariant c.head_answer-answer.ensures (cc)
+invariant_of-self-2 c = keeps _ (head_answered _ c.self.inside.log.items c.args.key _ c.self.invariant c.head_answer-answer.ensures) c.self.invariant (cc)
 
 pub returns : goal.returns
-returns c = rw (← c.self.view_is) (head_served _ c.self.inside.log.items _ _ _ c.args.key _ c.self.invariant c.head_answer-answer.ensures (cc) (omega (arith, c.self.inside.log.ok.0)))
+returns c = rw (← c.self.view_is) (served _ _ (head_answered _ c.self.inside.log.items c.args.key _ c.self.invariant c.head_answer-answer.ensures) c.self.invariant (cc) (omega (arith, c.self.inside.log.ok.0)))

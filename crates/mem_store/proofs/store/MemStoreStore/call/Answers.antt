@@ -15,3 +15,15 @@ returns-in-Delete-clause-told c = adds _ _ _ _ _ _ c.in-Delete.is c.delete.ensur
 
 pub returns-in-Put-clause-told : goal.returns-in-Put-clause-told
 returns-in-Put-clause-told c = adds _ _ _ _ _ _ c.in-Put.is c.put.ensures
+
+pub returns-in-Create-clause-told : goal.returns-in-Create-clause-told
+returns-in-Create-clause-told c = adds _ _ _ _ _ _ c.in-Create.is c.create.ensures
+
+pub returns-in-Part-clause-told : goal.returns-in-Part-clause-told
+returns-in-Part-clause-told c = adds _ _ _ _ _ _ c.in-Part.is c.part.ensures
+
+pub returns-in-Complete-clause-told : goal.returns-in-Complete-clause-told
+returns-in-Complete-clause-told c = adds _ _ _ _ _ _ c.in-Complete.is c.complete.ensures
+
+pub returns-in-Abort-clause-told : goal.returns-in-Abort-clause-told
+returns-in-Abort-clause-told c = adds _ _ _ _ _ _ c.in-Abort.is c.abort.ensures

@@ -1,50 +1,87 @@
-use Rattle.std.proofs.Common.{[], ◌∷◌, ◌++◌, Some, sym, ap, ◌∙◌, subst}
-use Rattle.bucket_model.specs.Answers.{brief_of, bytes_in}
+use Rattle.std.proofs.Common.{Some, [], ◌∷◌, ◌++◌, sym, ap, ◌∙◌, subst}
+use Rattle.bucket_model.specs.Answers.{brief_of}
 use Rattle.mount_model.specs.declared.event.Event.TheVariants.{Done}
 use Rattle.mount_model.specs.Heard.{told_by}
 use Rattle.mount_model.specs.Step.{step_of}
+use Rattle.mount_model.specs.State.{line_at, turn_of_writer}
 use Rattle.mount_model.specs.Run.{MayDone}
 use Rattle.mount_core.specs.Core.{CoreState, state_of}
-use Rattle.mount_core.proofs.Steps.{may_ask}
-use Rattle.mount_core.proofs.Events.{done_leaves, done_out, is_heard, begun_same, has_step_turned, goes_on_as, may_go_on}
+use Rattle.mount_core.specs.Shared.{shared_in}
+use Rattle.mount_core.specs.Turn.{Takes, turn_behind, lines_behind}
+use Rattle.mount_core.proofs.Steps.{has_step}
+use Rattle.mount_core.proofs.Events.{HasEnded, is_of_job, no_writer, done_out, is_heard, line_leaves, writer_may, writer_leaves, has_step_turned}
 use Rattle.mount_core.proofs.client.Core.done.Goals as goal
 
-pub end_job-line-requires : goal.end_job-line-requires
-end_job-line-requires c = done_out c.self.inside.work c.args.job c.args.position (brief_of c.args.answer) c.self.invariant (subst (λ (w : CoreState). MayDone (state_of w) c.args.job c.args.position (brief_of c.args.answer)) (sym c.self.view_is) c.requires)
+pub end_job-asker-requires : goal.end_job-asker-requires
+end_job-asker-requires c = done_out c.self.inside.work c.args.job c.args.position (brief_of c.args.answer) c.self.invariant (subst (λ (w : CoreState). MayDone (state_of w) c.args.job c.args.position (brief_of c.args.answer)) (sym c.self.view_is) c.requires)
 
-pub due-due-requires : goal.due-due-requires
-due-due-requires c = begun_same c.end_job-line.result.line c.self.inside.work.lines c.end_job-line.new.self.lines c.end_job-line.ensures.lines (is_heard c.self.inside.work c.args.job c.args.position c.end_job-line.result.line c.end_job-line.result.question (brief_of c.args.answer) c.self.invariant (subst (λ (w : CoreState). MayDone (state_of w) c.args.job c.args.position (brief_of c.args.answer)) (sym c.self.view_is) c.requires) c.end_job-line.ensures.asker).begun
-
-pub go_on-requires-clause-begun : goal.go_on-requires-clause-begun
-go_on-requires-clause-begun c = begun_same c.end_job-line.result.line c.self.inside.work.lines c.end_job-line.new.self.lines c.end_job-line.ensures.lines (is_heard c.self.inside.work c.args.job c.args.position c.end_job-line.result.line c.end_job-line.result.question (brief_of c.args.answer) c.self.invariant (subst (λ (w : CoreState). MayDone (state_of w) c.args.job c.args.position (brief_of c.args.answer)) (sym c.self.view_is) c.requires) c.end_job-line.ensures.asker).begun
-
-pub go_on-requires-clause-turn : goal.go_on-requires-clause-turn
-go_on-requires-clause-turn c =
-    may_go_on c.self.inside.work c.end_job-line.new.self c.args.job c.end_job-line.result.line c.end_job-line.result.question c.args.answer c.due-due.result c.told_by-told.result c.bytes_of.result
-    (is_heard c.self.inside.work c.args.job c.args.position c.end_job-line.result.line c.end_job-line.result.question (brief_of c.args.answer) c.self.invariant (subst (λ (w : CoreState). MayDone (state_of w) c.args.job c.args.position (brief_of c.args.answer)) (sym c.self.view_is) c.requires) c.end_job-line.ensures.asker)
-    c.end_job-line.ensures.lines c.end_job-line.ensures.shared (c.told_by-told.ensures ∙ ap (told_by c.end_job-line.result.question) c.brief-2.ensures) c.bytes_of.ensures
-    c.due-due.ensures.means
+pub hear-requires-clause-hears : goal.hear-requires-clause-hears
+hear-requires-clause-hears c =
+    let e = c.end_job-asker.ensures in
+    let asker = c.end_job-asker.result in
+    let may = subst (λ (w : CoreState). MayDone (state_of w) c.args.job c.args.position (brief_of c.args.answer)) (sym c.self.view_is) c.requires in
+    let parts : HasEnded c.args.job c.args.position (brief_of c.args.answer) c.self.inside.work c.end_job-asker.new.self = record { time = e.time; steps = e.steps ∙ ap (λ b. c.self.inside.work.record.steps ++ step_of (Done c.args.job c.args.position b) ∷ []) c.brief.ensures; lines = e.lines; count = e.count; held = e.held; shared = e.shared } in
+    writer_may c.self.inside.work c.end_job-asker.new.self c.args.job c.args.position c.in-Writer.opened (brief_of c.args.answer) asker.owner asker.line asker.purpose c.self.invariant (is_of_job c.self.inside.work c.args.job c.args.position (brief_of c.args.answer) asker.owner asker.line asker.purpose c.self.invariant may e.asker) c.in-Writer.is parts
 
 pub answer_awaits-requires : goal.answer_awaits-requires
 answer_awaits-requires c =
-    has_step_turned c.end_job-line.result.line (Some c.told_by-told.result) c.bytes_of.result c.end_job-line.new.self c.go_on.new.self c.go_on.ensures (may_ask c.self.inside.work.record.steps c.end_job-line.new.self.record.steps _ c.end_job-line.ensures.steps)
+    let e = c.end_job-asker.ensures in
+    let asker = c.end_job-asker.result in
+    let may = subst (λ (w : CoreState). MayDone (state_of w) c.args.job c.args.position (brief_of c.args.answer)) (sym c.self.view_is) c.requires in
+    let is = is_of_job c.self.inside.work c.args.job c.args.position (brief_of c.args.answer) asker.owner asker.line asker.purpose c.self.invariant may e.asker in
+    has_step_turned _ _ [] c.end_job-asker.new.self c.hear.new.self (c.hear.ensures is.may.job.call [] (sym is.purpose_is)) (has_step c.self.inside.work.record.steps c.end_job-asker.new.self.record.steps _ e.steps)
 
 pub invariant_of-self : goal.invariant_of-self
 invariant_of-self c =
-    let e = c.end_job-line.ensures in
-    (done_leaves c.self.inside.work c.end_job-line.new.self c.go_on.new.self c.answer_awaits.new.self c.args.job c.args.position c.end_job-line.result.line c.end_job-line.result.question (brief_of c.args.answer) (bytes_in c.args.answer) c.self.invariant (subst (λ (w : CoreState). MayDone (state_of w) c.args.job c.args.position (brief_of c.args.answer)) (sym c.self.view_is) c.requires) (is_heard c.self.inside.work c.args.job c.args.position c.end_job-line.result.line c.end_job-line.result.question (brief_of c.args.answer) c.self.invariant (subst (λ (w : CoreState). MayDone (state_of w) c.args.job c.args.position (brief_of c.args.answer)) (sym c.self.view_is) c.requires) c.end_job-line.ensures.asker)
-    e.time
-    (e.steps ∙ ap (λ b. c.self.inside.work.record.steps ++ step_of (Done c.args.job c.args.position b) ∷ []) c.brief.ensures)
-    e.lines e.count e.held e.shared
-    (goes_on_as c.end_job-line.result.line _ _ _ _ c.end_job-line.new.self c.go_on.new.self (c.told_by-told.ensures ∙ ap (told_by c.end_job-line.result.question) c.brief-2.ensures) c.bytes_of.ensures c.go_on.ensures)
+    let e = c.end_job-asker.ensures in
+    let asker = c.end_job-asker.result in
+    let may = subst (λ (w : CoreState). MayDone (state_of w) c.args.job c.args.position (brief_of c.args.answer)) (sym c.self.view_is) c.requires in
+    let parts : HasEnded c.args.job c.args.position (brief_of c.args.answer) c.self.inside.work c.end_job-asker.new.self = record { time = e.time; steps = e.steps ∙ ap (λ b. c.self.inside.work.record.steps ++ step_of (Done c.args.job c.args.position b) ∷ []) c.brief.ensures; lines = e.lines; count = e.count; held = e.held; shared = e.shared } in
+    (writer_leaves c.self.inside.work c.end_job-asker.new.self c.hear.new.self c.answer_awaits.new.self c.args.job c.args.position c.in-Writer.opened c.args.answer asker.owner asker.line asker.purpose c.self.invariant (is_of_job c.self.inside.work c.args.job c.args.position (brief_of c.args.answer) asker.owner asker.line asker.purpose c.self.invariant may e.asker) c.in-Writer.is parts
+    (λ called bytes purpose. subst (λ b. Takes (turn_of_writer (shared_in c.end_job-asker.new.self) called b (line_at c.in-Writer.opened c.end_job-asker.new.self.lines)) c.end_job-asker.new.self.lines bytes c.end_job-asker.new.self c.hear.new.self) c.brief-in-Writer.ensures (c.hear.ensures called bytes purpose))
     c.answer_awaits.ensures.answers c.answer_awaits.ensures.shared).stands
+
+pub returns-in-Writer : goal.returns-in-Writer
+returns-in-Writer c =
+    let e = c.end_job-asker.ensures in
+    let asker = c.end_job-asker.result in
+    let may = subst (λ (w : CoreState). MayDone (state_of w) c.args.job c.args.position (brief_of c.args.answer)) (sym c.self.view_is) c.requires in
+    let parts : HasEnded c.args.job c.args.position (brief_of c.args.answer) c.self.inside.work c.end_job-asker.new.self = record { time = e.time; steps = e.steps ∙ ap (λ b. c.self.inside.work.record.steps ++ step_of (Done c.args.job c.args.position b) ∷ []) c.brief.ensures; lines = e.lines; count = e.count; held = e.held; shared = e.shared } in
+    rw (← c.self.view_is) ((writer_leaves c.self.inside.work c.end_job-asker.new.self c.hear.new.self c.answer_awaits.new.self c.args.job c.args.position c.in-Writer.opened c.args.answer asker.owner asker.line asker.purpose c.self.invariant (is_of_job c.self.inside.work c.args.job c.args.position (brief_of c.args.answer) asker.owner asker.line asker.purpose c.self.invariant may e.asker) c.in-Writer.is parts
+    (λ called bytes purpose. subst (λ b. Takes (turn_of_writer (shared_in c.end_job-asker.new.self) called b (line_at c.in-Writer.opened c.end_job-asker.new.self.lines)) c.end_job-asker.new.self.lines bytes c.end_job-asker.new.self c.hear.new.self) c.brief-in-Writer.ensures (c.hear.ensures called bytes purpose))
+    c.answer_awaits.ensures.answers c.answer_awaits.ensures.shared).advances)
+
+pub turn_line-requires : goal.turn_line-requires
+turn_line-requires c =
+    let e = c.end_job-asker.ensures in
+    let asker = c.end_job-asker.result in
+    let may = subst (λ (w : CoreState). MayDone (state_of w) c.args.job c.args.position (brief_of c.args.answer)) (sym c.self.view_is) c.requires in
+    let parts : HasEnded c.args.job c.args.position (brief_of c.args.answer) c.self.inside.work c.end_job-asker.new.self = record { time = e.time; steps = e.steps ∙ ap (λ b. c.self.inside.work.record.steps ++ step_of (Done c.args.job c.args.position b) ∷ []) c.brief.ensures; lines = e.lines; count = e.count; held = e.held; shared = e.shared } in
+    let heard = is_heard c.self.inside.work c.end_job-asker.new.self c.args.job c.args.position c.args.answer asker.owner asker.line asker.purpose c.question_in.result c.told_by-told.result c.bytes_of.result c.self.invariant (is_of_job c.self.inside.work c.args.job c.args.position (brief_of c.args.answer) asker.owner asker.line asker.purpose c.self.invariant may e.asker) (no_writer asker.owner c.in_default.not-Writer) parts c.question_in.ensures (c.told_by-told.ensures ∙ ap (told_by c.question_in.result) c.brief-2.ensures) c.bytes_of.ensures in
+    record {
+      begun = heard.begun;
+      step = has_step c.self.inside.work.record.steps c.end_job-asker.new.self.record.steps _ e.steps;
+      not_idle = heard.not_idle;
+      gives = heard.gives;
+      writers = heard.writers;
+    }
+
+pub answer_awaits-requires-2 : goal.answer_awaits-requires-2
+answer_awaits-requires-2 c =
+    has_step_turned (turn_behind c.end_job-asker.result.line (Some c.told_by-told.result) c.end_job-asker.new.self) (lines_behind c.end_job-asker.result.line (Some c.told_by-told.result) c.end_job-asker.new.self) c.bytes_of.result c.end_job-asker.new.self c.turn_line.new.self c.turn_line.ensures (has_step c.self.inside.work.record.steps c.end_job-asker.new.self.record.steps _ c.end_job-asker.ensures.steps)
+
+pub invariant_of-self-2 : goal.invariant_of-self-2
+invariant_of-self-2 c =
+    let e = c.end_job-asker.ensures in
+    let asker = c.end_job-asker.result in
+    let may = subst (λ (w : CoreState). MayDone (state_of w) c.args.job c.args.position (brief_of c.args.answer)) (sym c.self.view_is) c.requires in
+    let parts : HasEnded c.args.job c.args.position (brief_of c.args.answer) c.self.inside.work c.end_job-asker.new.self = record { time = e.time; steps = e.steps ∙ ap (λ b. c.self.inside.work.record.steps ++ step_of (Done c.args.job c.args.position b) ∷ []) c.brief.ensures; lines = e.lines; count = e.count; held = e.held; shared = e.shared } in
+    (line_leaves c.self.inside.work c.end_job-asker.new.self c.turn_line.new.self c.answer_awaits-2.new.self c.args.job c.args.position c.args.answer asker.owner asker.line asker.purpose c.question_in.result c.told_by-told.result c.bytes_of.result c.self.invariant (is_of_job c.self.inside.work c.args.job c.args.position (brief_of c.args.answer) asker.owner asker.line asker.purpose c.self.invariant may e.asker) (no_writer asker.owner c.in_default.not-Writer) parts c.question_in.ensures (c.told_by-told.ensures ∙ ap (told_by c.question_in.result) c.brief-2.ensures) c.bytes_of.ensures c.turn_line.ensures c.answer_awaits-2.ensures.answers c.answer_awaits-2.ensures.shared).stands
 
 pub returns : goal.returns
 returns c =
-    let e = c.end_job-line.ensures in
-    rw (← c.self.view_is) ((done_leaves c.self.inside.work c.end_job-line.new.self c.go_on.new.self c.answer_awaits.new.self c.args.job c.args.position c.end_job-line.result.line c.end_job-line.result.question (brief_of c.args.answer) (bytes_in c.args.answer) c.self.invariant (subst (λ (w : CoreState). MayDone (state_of w) c.args.job c.args.position (brief_of c.args.answer)) (sym c.self.view_is) c.requires) (is_heard c.self.inside.work c.args.job c.args.position c.end_job-line.result.line c.end_job-line.result.question (brief_of c.args.answer) c.self.invariant (subst (λ (w : CoreState). MayDone (state_of w) c.args.job c.args.position (brief_of c.args.answer)) (sym c.self.view_is) c.requires) c.end_job-line.ensures.asker)
-    e.time
-    (e.steps ∙ ap (λ b. c.self.inside.work.record.steps ++ step_of (Done c.args.job c.args.position b) ∷ []) c.brief.ensures)
-    e.lines e.count e.held e.shared
-    (goes_on_as c.end_job-line.result.line _ _ _ _ c.end_job-line.new.self c.go_on.new.self (c.told_by-told.ensures ∙ ap (told_by c.end_job-line.result.question) c.brief-2.ensures) c.bytes_of.ensures c.go_on.ensures)
-    c.answer_awaits.ensures.answers c.answer_awaits.ensures.shared).advances)
+    let e = c.end_job-asker.ensures in
+    let asker = c.end_job-asker.result in
+    let may = subst (λ (w : CoreState). MayDone (state_of w) c.args.job c.args.position (brief_of c.args.answer)) (sym c.self.view_is) c.requires in
+    let parts : HasEnded c.args.job c.args.position (brief_of c.args.answer) c.self.inside.work c.end_job-asker.new.self = record { time = e.time; steps = e.steps ∙ ap (λ b. c.self.inside.work.record.steps ++ step_of (Done c.args.job c.args.position b) ∷ []) c.brief.ensures; lines = e.lines; count = e.count; held = e.held; shared = e.shared } in
+    rw (← c.self.view_is) ((line_leaves c.self.inside.work c.end_job-asker.new.self c.turn_line.new.self c.answer_awaits-2.new.self c.args.job c.args.position c.args.answer asker.owner asker.line asker.purpose c.question_in.result c.told_by-told.result c.bytes_of.result c.self.invariant (is_of_job c.self.inside.work c.args.job c.args.position (brief_of c.args.answer) asker.owner asker.line asker.purpose c.self.invariant may e.asker) (no_writer asker.owner c.in_default.not-Writer) parts c.question_in.ensures (c.told_by-told.ensures ∙ ap (told_by c.question_in.result) c.brief-2.ensures) c.bytes_of.ensures c.turn_line.ensures c.answer_awaits-2.ensures.answers c.answer_awaits-2.ensures.shared).advances)

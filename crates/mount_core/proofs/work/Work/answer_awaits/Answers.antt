@@ -2,7 +2,7 @@ use Rattle.std.proofs.Common.{[], ◌∷◌, ◌++◌, ◌∙◌, refl, sym, ap,
 use Rattle.mount_model.specs.declared.request.Reply.TheVariants.{Success}
 use Rattle.mount_model.specs.Step.{HasStep}
 use Rattle.mount_model.specs.Run.{due_awaits}
-use Rattle.mount_core.specs.Turn.{with_turn}
+use Rattle.mount_core.specs.Turn.{with_part}
 use Rattle.mount_core.proofs.Steps.{HasStep-change_last}
 use Rattle.mount_core.proofs.Turns.{answers_more, answers_none, more_replied}
 use Rattle.mount_core.proofs.work.Work.answer_awaits.Goals as goal
@@ -14,7 +14,7 @@ pub loop-line-preserved : goal.loop-line-preserved
 loop-line-preserved c =
     let so_far = c.loop-line.invariant in
     let one = record { line = c.in-Some.line; reply = Success } ∷ [] in
-    let steps = HasStep-change_last (with_turn [] one) c.loop-line.self.record.steps so_far.0 in (
+    let steps = HasStep-change_last (with_part [] [] one) c.loop-line.self.record.steps so_far.0 in (
       subst HasStep (sym c.reply_line.ensures.answers.steps) steps,
       (
         so_far.1.0 ++ one,

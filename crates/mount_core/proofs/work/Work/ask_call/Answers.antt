@@ -10,7 +10,8 @@ invariant_of-self-2 c = record {
   counted = rw (c.in_ok-ask.ensures.ok, owes_jobs-push) (omega (arith, c.keep_answer.new.self.counted));
   enough = c.in_ok-ask.ensures.room;
   knows = rw c.ask.ensures.known c.keep_answer.new.self.knows;
-  no_files = c.keep_answer.new.self.no_files;
+  part_low = c.keep_answer.new.self.part_low;
+  part_high = c.keep_answer.new.self.part_high;
   rising = c.keep_answer.new.self.rising;
 }
 

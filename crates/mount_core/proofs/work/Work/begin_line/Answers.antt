@@ -17,6 +17,7 @@ invariant_of-self c =
       counted = rw c.begin.ensures (omega arith);
       enough = omega arith;
       knows = rw c.begin.ensures (known-change c.args.line (λ phase. Begun _) _ _ c.args.self.now.lines c.event.ensures.known c.args.self.now.knows);
-      no_files = c.args.self.now.no_files;
+      part_low = c.args.self.now.part_low;
+      part_high = c.args.self.now.part_high;
       rising = rw c.begin.ensures (rising-change c.args.line (λ phase. Begun _) c.args.self.now.lines c.args.self.now.rising);
     }

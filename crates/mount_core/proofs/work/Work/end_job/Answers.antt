@@ -15,6 +15,7 @@ invariant_of-self c =
       counted = rw c.done-asker.ensures.held (omega arith);
       enough = omega arith;
       knows = rw c.done-asker.ensures.known c.args.self.now.knows;
-      no_files = c.args.self.now.no_files;
+      part_low = c.args.self.now.part_low;
+      part_high = c.args.self.now.part_high;
       rising = c.args.self.now.rising;
     }

@@ -12,7 +12,8 @@ invariant_of-self c =
       counted = rw (owed_heard c.args.line c.in-Some.told c.args.self.now.lines c.hear.new.self c.hear.result c.hear.ensures.ok c.hear.ensures.err) c.args.self.now.counted;
       enough = c.args.self.now.enough;
       knows = rw lines c.args.self.now.knows;
-      no_files = c.args.self.now.no_files;
+      part_low = c.args.self.now.part_low;
+      part_high = c.args.self.now.part_high;
       rising = rw lines c.args.self.now.rising;
     }
 

@@ -1,12 +1,8 @@
 use Rattle.std.proofs.Common.{ap, ◌∙◌}
 use Rattle.mp_rules.specs.Local.{LocalNames, without_name}
 use Rattle.mount_model.specs.State.{Shared}
-use Rattle.mount_core.proofs.Kept.{files-removed}
 use Rattle.mount_core.proofs.Turns.{key_below}
 use Rattle.mount_core.proofs.work.Work.remove_name.Goals as goal
-
-pub invariant_of-self-clause-no_files : goal.invariant_of-self-clause-no_files
-invariant_of-self-clause-no_files c = files-removed c.in-Ok.key.now c.args.self.now.names c.remove.new.self c.remove.ensures.names c.args.self.now.no_files
 
 pub returns-clause-shared : goal.returns-clause-shared
 returns-clause-shared c = λ key s dir.

@@ -20,6 +20,7 @@ invariant_of-self c =
       counted = rw c.reply-2.ensures (omega arith);
       enough = omega arith;
       knows = rw c.reply-2.ensures (known-change c.args.line (λ phase. Replied) _ _ c.args.self.now.lines c.reply.ensures.known c.args.self.now.knows);
-      no_files = c.args.self.now.no_files;
+      part_low = c.args.self.now.part_low;
+      part_high = c.args.self.now.part_high;
       rising = rw c.reply-2.ensures (rising-change c.args.line (λ phase. Replied) c.args.self.now.lines c.args.self.now.rising);
     }

@@ -1,0 +1,4 @@
+pub mod Asked
+pub mod Dropped
+pub mod Owed
+pub mod Turn

@@ -1,0 +1,5 @@
+pub mod Numbered
+pub mod Along
+pub mod Steps
+pub mod Parts
+pub mod Laws

@@ -1,0 +1,17 @@
+pub mod Found
+pub mod Moved
+pub mod Pushed
+pub mod Filled
+pub mod Heard
+pub mod Events
+pub mod Turned
+pub mod Others
+pub mod Named
+pub mod Accepted
+pub mod Turns
+pub mod Stepped
+pub mod Run
+pub mod Whole
+pub mod Success
+pub mod There
+pub mod Written
