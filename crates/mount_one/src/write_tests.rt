@@ -67,6 +67,17 @@ fn a_part_that_fails_fails_its_file(rt: HostRuntime) -> Result<(), Fail> {
     assert_record(&rt, alloc, parts_of(4), script, &mut store, expected)
 }
 
+// Two parts are ready when another fails. They are dropped at once, and never reach the bucket.
+#[test]
+fn ready_parts_of_a_failed_file_are_dropped(rt: HostRuntime) -> Result<(), Fail> {
+    let alloc = rt.alloc();
+    let script = "1 openw 1 /a\n1 write 1 0 tabcdefghijkl\n1 close 1\n";
+    let expected =
+        "B 1 0\nA 1 L1 probe a\nT 1 0 0\nD 1 0 no\nA 2 L1 head a\nT 2 0 1\nD 2 1 missing\nR 1 open 0\nB 2 0\nA 3 W1 create a\nR 2 wrote 12\nT 3 0 2\nD 3 2 upload 1\nA 4 W1 part 1 1 0 4\nA 5 W1 part 1 2 4 8\nA 6 W1 part 1 3 8 12\nT 4 0 3\nD 4 3 fault\nX 5\nX 6\nB 3 0\nA 7 W1 abort 1\nT 7 0 4\nD 7 4 gone\nR 3 err EIO\n";
+    let mut store = failing(alloc, 4, When::Before)?;
+    assert_record(&rt, alloc, parts_of(4), script, &mut store, expected)
+}
+
 // The object is there, whole, though its answer was lost.
 #[test]
 fn a_lost_answer_leaves_a_whole_object(rt: HostRuntime) -> Result<(), Fail> {
