@@ -1,19 +1,26 @@
 #!/usr/bin/env bash
 # Measures how time and memory grow with a script's length. Needs bash and python3 alone.
-#   bench/scale.sh            builds the program and measures it
-#   bench/scale.sh PROGRAM    measures this program
+#   bench/scale.sh                  builds the program and its tests and measures them
+#   bench/scale.sh PROGRAM TESTS    measures this program and the tests of mount_one, built
 # Prints a table for bench/RESULTS.md on standard output. Scripts and records stand in a folder that goes away at the end.
 set -eu
 top=$(cd "$(dirname "${BASH_SOURCE[0]}")/.." && pwd)
 program=${1:-}
+tests=${2:-}
 if [ -z "$program" ]; then
     "$top/mount" run </dev/null >/dev/null
     # The built program itself, so that the search for changed sources isn't measured.
     program="$top/crates/mount_one/out/mount_one"
 fi
+if [ -z "$tests" ]; then
+    tests="$top/crates/mount_one/out/mount_one_tests"
+    if [ ! -x "$tests" ]; then
+        (cd "$top/crates/mount_one" && rt test >/dev/null) >&2
+    fi
+fi
 folder=$(mktemp -d)
 trap 'rm -rf "$folder"' EXIT
-python3 - "$program" "$folder" <<'PYTHON'
+python3 - "$program" "$tests" "$folder" <<'PYTHON'
 import os
 import resource
 import shutil
@@ -21,7 +28,7 @@ import subprocess
 import sys
 import time
 
-program, folder = sys.argv[1:]
+program, tests, folder = sys.argv[1:]
 RUNS = 5
 REQUESTS_OF_HALF = 30_000
 COMMENT = "#" + "c" * 8_190
@@ -33,6 +40,9 @@ WRITTEN = 1_600
 WRITES = 10_000
 QUESTIONS = 60_000
 MOST_LINES = 65_536
+LISTED = 60_000
+PAGES = 20_001
+PAGES_TEST = "list_tests::a_listing_has_at_most_10000_pages"
 LINE = 1_023
 
 
@@ -108,6 +118,31 @@ def directories(count):
             yield f"1 {verb} /d{n:05d}"
 
 
+def objects(count):
+    """So many objects of the root, put by the others, and an await."""
+    for n in range(count):
+        yield f"0 put k{n:05d} tx"
+    yield "1 await"
+
+
+def objects_listed(count):
+    """The same, and a listing of them all."""
+    yield from objects(count)
+    yield "1 list /"
+
+
+def objects_asked_for(count):
+    """The same, and a stat of each."""
+    yield from objects(count)
+    for n in range(count):
+        yield f"1 stat /k{n:05d}"
+
+
+def listing_of(count):
+    """What that listing is answered."""
+    return f"list {count}" + "".join(f" f:1:k{n:05d}" for n in range(count))
+
+
 def stats_of(names):
     """A probe for each name, and a head of the last one."""
     return QUESTIONS // (names + 1)
@@ -168,6 +203,26 @@ def peak_kib(script, record):
     return resource.getrusage(resource.RUSAGE_CHILDREN).ru_maxrss, False
 
 
+def seconds_of_test(name):
+    """One run of one test of the program."""
+    start = time.perf_counter()
+    ended = subprocess.run([tests, name], stdout=subprocess.PIPE, stderr=subprocess.STDOUT)
+    seconds = time.perf_counter() - start
+    if ended.returncode != 0 or b"test result: ok" not in ended.stdout:
+        sys.exit(f"scale: the test {name} didn't pass")
+    return seconds
+
+
+def best_of(lines):
+    """The best time of a script that is served to its end."""
+    script = write_script("best", lines)
+    record = os.path.join(folder, "best.record")
+    best = min(run([program, "run"], script, record) for _ in range(RUNS))
+    os.remove(script)
+    os.remove(record)
+    return best
+
+
 def measure(name, lines, count, last, asks=None):
     script = write_script(name, lines)
     record = os.path.join(folder, name + ".record")
@@ -219,6 +274,9 @@ cases = [
 ] + [
     (f"{count:,} directories made, asked for and removed", directories(count), 3 * count, f"R {3 * count} ok", 4 * count)
     for count in (1_000, 10_000)
+] + [
+    (f"{LISTED:,} puts", objects(LISTED), LISTED + 1, f"R {LISTED + 1} ok", LISTED),
+    (f"{LISTED:,} puts and a listing in pages of 1,000", objects_listed(LISTED), LISTED + 2, f"R {LISTED + 2} {listing_of(LISTED)}", LISTED + LISTED // 1_000),
 ]
 
 print(f"Best of {RUNS} runs, seconds on the wall. The ratio is to the line above.")
@@ -232,7 +290,19 @@ for place, (name, lines, *expected) in enumerate(cases):
     all_exact = all_exact and is_exact
     ratio = f"{best / before:.2f}" if place == 1 else ""
     print(f"| {name} | {mib(script_size)} | {mib(record_size)} | {best:.3f} | {ratio} | {peak / 1024:.1f} |", flush=True)
-    before = best
+    before, putting = best, before
+
+# The last two cases differ by the listing alone.
+listing = before - putting
+print()
+print(f"Listing the {LISTED:,} objects takes {listing:.3f} seconds, {listing / putting:.2f} times what putting them takes.")
+
+# The program has pages of 1,000 items, and this test of it pages of one: two listings, of 10,000 pages each, and the puts.
+putting = best_of(objects(PAGES))
+asking = best_of(objects_asked_for(PAGES)) - putting
+paging = min(seconds_of_test(PAGES_TEST) for _ in range(RUNS)) - putting
+print()
+print(f"20,000 pages of one item take {paging:.3f} seconds, {paging / asking:.2f} times what {PAGES:,} stats take, which is {asking:.3f}.")
 
 print()
 print("Scripts that are read to their end and refused there:")

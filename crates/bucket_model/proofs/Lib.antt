@@ -1,1 +1,5 @@
 pub mod Along
+pub mod CommonPrefix
+pub mod Listing
+pub mod Order
+pub mod Rising

@@ -1,11 +1,13 @@
 -- Answers in brief, and which of them a call may get.
 use Rattle.std.specs.Prelude.{ℕ, ◌+◌, ◌<◌, ◌≤◌, Bool, true, false, ◌==◌, List, [], length}
 use Rattle.bucket_model.specs.declared.call.Call.{Call}
+use Rattle.bucket_model.specs.declared.call.Call.TheVariants as call
 use Rattle.bucket_model.specs.declared.call.Call.TheVariants.{Head, Probe, Get, Delete, Put, Create, Part, Complete, Abort}
 use Rattle.bucket_model.specs.declared.answer.Answer.{Answer}
 use Rattle.bucket_model.specs.declared.answer.Answer.TheVariants as answer
 use Rattle.bucket_model.specs.declared.answer.Brief.{Brief}
-use Rattle.bucket_model.specs.declared.answer.Brief.TheVariants.{Found, Missing, Yes, No, Bytes, Changed, Gone, Made, Upload, Stored, NoUpload, Fault, NoMemory}
+use Rattle.bucket_model.specs.Listing.{is_page}
+use Rattle.bucket_model.specs.declared.answer.Brief.TheVariants.{Found, Missing, Yes, No, Page, Bytes, Changed, Gone, Made, Upload, Stored, NoUpload, Fault, NoMemory}
 
 -- bytes by their length, all else as it is
 abbrev pub brief_of : Answer → Brief
@@ -13,6 +15,7 @@ brief_of (answer.Found etag size) = Found etag size
 brief_of answer.Missing = Missing
 brief_of answer.Yes = Yes
 brief_of answer.No = No
+brief_of (answer.Page page) = Page page
 brief_of (answer.Bytes bytes) = Bytes (length bytes)
 brief_of answer.Changed = Changed
 brief_of answer.Gone = Gone
@@ -23,6 +26,10 @@ brief_of answer.NoUpload = NoUpload
 brief_of answer.Fault = Fault
 brief_of answer.NoMemory = NoMemory
 
+abbrev pub brings_page : Answer → Bool
+brings_page (answer.Page page) = true
+brings_page other = false
+
 -- the bytes that an answer brings
 abbrev pub bytes_in : Answer → List ℕ
 bytes_in (answer.Bytes bytes) = bytes
@@ -32,8 +39,13 @@ bytes_in other = []
 abbrev pub max_parts : ℕ
 max_parts = 10000
 
--- a range asks for at least one byte; parts have the numbers from 1 on, and an object is made of one at least
+-- a page has at most so many items, as Amazon S3 says
+abbrev pub max_items : ℕ
+max_items = 1000
+
+-- a page has room for an item; a range asks for at least one byte; parts have the numbers from 1 on, and an object is made of one at least
 abbrev pub MayBeMade : Call → Type 0
+MayBeMade (call.List prefix after max) = (1 ≤ max) × (max ≤ max_items)
 MayBeMade (Get key etag from to) = from < to
 MayBeMade (Part upload number bytes) = (1 ≤ number) × (number ≤ max_parts)
 MayBeMade (Complete upload parts) = 1 ≤ parts
@@ -49,6 +61,10 @@ abbrev pub is_answer_of_probe : Brief → Bool
 is_answer_of_probe Yes = true
 is_answer_of_probe No = true
 is_answer_of_probe other = false
+
+abbrev pub is_answer_of_list : List ℕ → List ℕ → ℕ → Brief → Bool
+is_answer_of_list prefix after max (Page page) = is_page prefix after max page
+is_answer_of_list prefix after max other = false
 
 -- bytes have the length that was asked for
 abbrev pub is_answer_of_get : ℕ → ℕ → Brief → Bool
@@ -87,6 +103,7 @@ is_answer_of_abort other = false
 abbrev pub is_answer_of : Call → Brief → Bool
 is_answer_of (Head key) answer = is_answer_of_head answer
 is_answer_of (Probe key) answer = is_answer_of_probe answer
+is_answer_of (call.List prefix after max) answer = is_answer_of_list prefix after max answer
 is_answer_of (Get key etag from to) answer = is_answer_of_get from to answer
 is_answer_of (Delete key) answer = is_answer_of_delete answer
 is_answer_of (Put key bytes) answer = is_answer_of_put answer

@@ -1,19 +1,21 @@
 -- A bucket's content, what one call answers, and what it leaves.
-use Rattle.std.specs.Prelude.{◌≡◌, ℕ, zero, suc, ◌+◌, ◌-◌, List, [], ◌∷◌, ◌++◌, length, find, nat_eq, nat_le, ◌&&◌, ◌==◌, Bool, true, false, if◌then◌else◌, Option, Some, None, IsSome, option_map}
+use Rattle.std.specs.Prelude.{◌≡◌, ℕ, zero, suc, ◌+◌, ◌-◌, List, [], ◌∷◌, ◌++◌, length, find, nat_eq, nat_le, ◌&&◌, ◌==◌, Bool, true, if◌then◌else◌, Option, Some, None, IsSome, option_map}
 use Rattle.std.specs.Ordering.{nat_cmp}
 use Rattle.std.specs.Cmp.Lexicographic.{slice_cmp, pointwise}
 use Rattle.std.specs.List.{starts_with, slice_range}
 use Rattle.std.specs.FinMap as map
 use Rattle.bucket_model.specs.declared.call.Call.{Call}
+use Rattle.bucket_model.specs.declared.call.Call.TheVariants as call
 use Rattle.bucket_model.specs.declared.call.Call.TheVariants.{Head, Probe, Get, Delete, Put, Create, Part, Complete, Abort}
 use Rattle.bucket_model.specs.declared.answer.Answer.{Answer}
 use Rattle.bucket_model.specs.declared.answer.Answer.TheVariants as answer
 use Rattle.bucket_model.specs.declared.answer.Brief.{Brief}
-use Rattle.bucket_model.specs.declared.answer.Brief.TheVariants.{Found, Missing, Yes, No, Bytes, Changed, Gone, Made, Upload, Stored, NoUpload, Fault, NoMemory}
+use Rattle.bucket_model.specs.declared.answer.Brief.TheVariants.{Found, Missing, Yes, No, Page, Bytes, Changed, Gone, Made, Upload, Stored, NoUpload}
 use Rattle.bucket_model.specs.declared.history.Object.{Object}
 use Rattle.bucket_model.specs.declared.history.Name.{Name}
 use Rattle.bucket_model.specs.declared.history.Name.TheVariants as name
 use Rattle.bucket_model.specs.declared.history.Logged.{Logged}
+use Rattle.bucket_model.specs.Listing.{page_of}
 
 -- the parts of an upload, by their numbers
 abbrev pub Parts : Type 0
@@ -60,6 +62,10 @@ abbrev pub IsProbe : BucketState → List ℕ → Brief → Type 0
 IsProbe state key Yes = HasBelow state key
 IsProbe state key No = HasBelow state key → ⊥
 IsProbe state key other = ⊥
+
+-- ListObjectsV2 gives a page of all keys
+abbrev pub IsList : BucketState → List ℕ → List ℕ → ℕ → Brief → Type 0
+IsList state prefix after max answer = answer ≡ Page (page_of prefix after max (map.entries state.objects))
 
 -- GetObject with If-Match gives bytes of the object with this ETag alone
 abbrev pub get_of : List ℕ → ℕ → ℕ → Option Object → Brief
@@ -112,6 +118,7 @@ IsComplete (Some whole) answer = IsMade answer
 abbrev pub IsAnswer : BucketState → Call → Brief → Type 0
 IsAnswer state (Head key) answer = IsHead state key answer
 IsAnswer state (Probe key) answer = IsProbe state key answer
+IsAnswer state (call.List prefix after max) answer = IsList state prefix after max answer
 IsAnswer state (Get key etag from to) answer = IsGet state key etag from to answer
 IsAnswer state (Delete key) answer = answer ≡ Gone
 IsAnswer state (Put key bytes) answer = IsMade answer

@@ -1,7 +1,7 @@
 -- A bucket's history, and what makes it legal.
 use Rattle.std.specs.Prelude.{◌≡◌, ◌≢◌, ℕ, List, [], ◌∷◌, ◌++◌, fold, Contains, Bool, true, false, Option, Some, None, option_to_list}
 use Rattle.bucket_model.specs.declared.call.Call.{Call}
-use Rattle.bucket_model.specs.declared.call.Call.TheVariants.{Head, Probe, Get, Delete, Put, Create, Part, Complete, Abort}
+use Rattle.bucket_model.specs.declared.call.Call.TheVariants.{Delete, Put, Create, Complete}
 use Rattle.bucket_model.specs.declared.answer.Brief.{Brief}
 use Rattle.bucket_model.specs.declared.answer.Brief.TheVariants.{Made, Upload, Fault, NoMemory}
 use Rattle.bucket_model.specs.declared.history.Name.{Name}

@@ -1,8 +1,10 @@
-ghost use Rattle.std.specs.Prelude.{◌≡◌};
-ghost use Rattle.bucket_model.specs.Answers.{brief_of};
+ghost use Rattle.std.specs.Prelude.{◌≡◌, false, IfOk, IsOk};
+ghost use Rattle.bucket_model.specs.Answers.{brief_of, brings_page, bytes_in};
 
+use crate::Page;
 use bytes::Bytes;
 use mp_types::ETag;
+use std::alloc::AllocError;
 
 /// What a bucket answers a call with.
 #[derive(Debug, Drop)]
@@ -15,6 +17,8 @@ pub enum Answer {
     Yes,
     /// No key begins so.
     No,
+    /// The items that were asked for.
+    Page(Page),
     /// The bytes of the range that was asked for.
     Bytes(Bytes),
     /// The object has another ETag than the one asked for, or ends before the range does.
@@ -42,6 +46,7 @@ pub enum Brief {
     Missing,
     Yes,
     No,
+    Page(Page),
     Bytes { length: u64 },
     Changed,
     Gone,
@@ -54,11 +59,13 @@ pub enum Brief {
 }
 
 impl Answer {
-    /// The answer in brief. Takes no memory.
-    pub fn brief(&self) -> Brief
-        ensures { result ≡ brief_of self.now }
+    /// The answer in brief. The items of a page are shared: an error says that they have too many owners, and comes for no
+    /// other answer. Takes no memory.
+    pub fn brief(&self) -> Result<Brief, AllocError>
+        ensures ok { IfOk result (λ brief. brief ≡ brief_of self.now) }
+        ensures plain { brings_page self.now ≡ false → IsOk result }
     {
-        match self {
+        Ok(match self {
             Answer::Found { etag, size } => Brief::Found {
                 etag: etag.copy(),
                 size: *size,
@@ -66,6 +73,7 @@ impl Answer {
             Answer::Missing => Brief::Missing,
             Answer::Yes => Brief::Yes,
             Answer::No => Brief::No,
+            Answer::Page(page) => Brief::Page(page.share()?),
             Answer::Bytes(bytes) => Brief::Bytes {
                 length: bytes.len() as u64,
             },
@@ -77,32 +85,24 @@ impl Answer {
             Answer::NoUpload => Brief::NoUpload,
             Answer::Fault => Brief::Fault,
             Answer::NoMemory => Brief::NoMemory,
-        }
+        })
     }
-}
 
-impl Brief {
-    /// An equal answer in brief. Takes no memory.
-    pub fn copy(&self) -> Self
-        ensures { result ≡ self.now }
+    /// The answer in brief, and the bytes that it brings, or none. Nothing is copied.
+    pub fn split(self) -> (Brief, Bytes)
+        ensures brief { result.0 ≡ brief_of self }
+        ensures bytes { result.1 ≡ bytes_in self }
     {
         match self {
-            Brief::Found { etag, size } => Brief::Found {
-                etag: etag.copy(),
-                size: *size,
+            Answer::Bytes(bytes) => {
+                let length = bytes.len() as u64;
+                (Brief::Bytes { length }, bytes)
+            }
+            Answer::Page(page) => (Brief::Page(page), Bytes::new()),
+            other => match other.brief() {
+                Ok(brief) => (brief, Bytes::new()),
+                Err(_) => unreachable!(),
             },
-            Brief::Missing => Brief::Missing,
-            Brief::Yes => Brief::Yes,
-            Brief::No => Brief::No,
-            Brief::Bytes { length } => Brief::Bytes { length: *length },
-            Brief::Changed => Brief::Changed,
-            Brief::Gone => Brief::Gone,
-            Brief::Made(etag) => Brief::Made(etag.copy()),
-            Brief::Upload(upload) => Brief::Upload(*upload),
-            Brief::Stored => Brief::Stored,
-            Brief::NoUpload => Brief::NoUpload,
-            Brief::Fault => Brief::Fault,
-            Brief::NoMemory => Brief::NoMemory,
         }
     }
 }

@@ -1,7 +1,7 @@
 ghost use Rattle.std.specs.Prelude.{◌≡◌, IfOk};
 
 use bytes::Bytes;
-use mp_types::{ETag, Key};
+use mp_types::{ETag, Key, Text};
 use std::alloc::{AllocError, Global};
 
 /// A call of a bucket.
@@ -14,6 +14,13 @@ pub enum Call {
     /// ListObjectsV2 of one item: whether some key begins with this one followed by `/`.
     Probe {
         key: Key,
+    },
+    /// ListObjectsV2 with the delimiter `/`: the first `max` items of the prefix whose texts stand behind `after`. The
+    /// empty text stands before every item. `max` is from 1 to 1,000.
+    List {
+        prefix: Text,
+        after: Text,
+        max: u32,
     },
     /// GetObject with a range and If-Match: the bytes `from..to` of the object at the key, where it still has
     /// this ETag. `from` is less than `to`.
@@ -65,6 +72,11 @@ impl Call {
             }),
             Call::Probe { key } => Ok(Call::Probe {
                 key: key.copy(alloc)?,
+            }),
+            Call::List { prefix, after, max } => Ok(Call::List {
+                prefix: Text::copy(alloc, prefix.as_str())?,
+                after: Text::copy(alloc, after.as_str())?,
+                max: *max,
             }),
             Call::Get {
                 key,

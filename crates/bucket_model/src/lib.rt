@@ -5,7 +5,9 @@
 mod answer;
 mod call;
 mod history;
+mod page;
 
 pub use answer::{Answer, Brief};
 pub use call::Call;
 pub use history::{HEntry, Logged, Name, Object};
+pub use page::{Page, PageItem, pages_are_of_the_keys};

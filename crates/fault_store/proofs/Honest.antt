@@ -3,10 +3,13 @@ use Rattle.std.proofs.Common.{◌≡◌, ◌≢◌, ℕ, Bool, true, false, List
 use Rattle.std.specs.Option.{IfSome, OnSome, option_to_list}
 use Rattle.std.proofs.lemmas.List.Elements.{Contains-append_left, Contains-push, Contains-push_cases}
 use Rattle.bucket_model.specs.declared.call.Call.{Call}
+use Rattle.bucket_model.specs.declared.call.Call.TheVariants as call
 use Rattle.bucket_model.specs.declared.call.Call.TheVariants.{Head, Probe, Get, Delete, Put, Create, Part, Complete, Abort}
 use Rattle.bucket_model.specs.declared.answer.Answer.{Answer}
 use Rattle.bucket_model.specs.declared.answer.Brief.{Brief}
+use Rattle.bucket_model.specs.declared.answer.Brief.TheVariants as brief
 use Rattle.bucket_model.specs.declared.answer.Brief.TheVariants.{Made, Upload, NoUpload, Fault, NoMemory}
+use Rattle.bucket_model.specs.declared.page.Page.{Page}
 use Rattle.bucket_model.specs.declared.history.Name.{Name}
 use Rattle.bucket_model.specs.declared.history.Name.TheVariants as name
 use Rattle.bucket_model.specs.declared.history.Logged.{Logged}
@@ -15,14 +18,14 @@ use Rattle.bucket_model.specs.Answers.{MayBeMade, brief_of, fits, is_answer_of, 
 use Rattle.bucket_model.specs.Bucket.{BucketState, IsComplete, ObjectVersion, Whole, after, upload_at, version_completed, version_made, whole_of}
 use Rattle.bucket_model.specs.History.{History, IsLegalEntry, IsLegalHistory, IsNewUpload, IsOneContent, Makes, MakesWhole, MayAnswer, replay, versions_of}
 use Rattle.mem_store.proofs.Replay.{replay_push, versions_push, legal_push}
-use Rattle.store_trait.specs.Told.{AddsFor, Tells}
+use Rattle.store_trait.specs.Told.{AddsEntry, AddsFor, Tells}
 use Rattle.fault_store.specs.declared.faulty.Faulty.{Faulty}
 use Rattle.fault_store.specs.declared.faulty.When.{When}
 use Rattle.fault_store.specs.declared.faulty.When.TheVariants.{Before, After}
 use Rattle.fault_store.specs.Called.{IsCalled}
 use Rattle.fault_store.specs.Counts.{risen}
 use Rattle.fault_store.specs.Entries.{entries_of, entry_after, entry_before, made_by, shown}
-use Rattle.fault_store.specs.Faulty.{IsHonest, IsServed, Mirrors, Reaches, Serves, when_at}
+use Rattle.fault_store.specs.Faulty.{Conveys, IsHonest, IsServed, LosesPage, Mirrors, Reaches, Serves, when_at}
 
 -- the last entry of a legal history is legal behind those before it
 last_from : (past log : List Logged) (logged : Logged) → Along IsLegalEntry (λ before entry. before ++ entry ∷ []) past (log ++ logged ∷ []) → IsLegalEntry (past ++ log) logged
@@ -105,6 +108,7 @@ name_is state (Create key) answer made fit sound answered makes = create_makes s
 name_is state (Complete upload parts) answer made fit sound answered makes = complete_makes state upload parts answer made fit sound answered makes
 name_is state (Head key) answer made fit sound answered makes = makes ∙ sym (makes_none (Head key) (λ _. refl) (λ _. refl) answer fit)
 name_is state (Probe key) answer made fit sound answered makes = makes ∙ sym (makes_none (Probe key) (λ _. refl) (λ _. refl) answer fit)
+name_is state (call.List prefix after max) answer made fit sound answered makes = makes ∙ sym (makes_none (call.List prefix after max) (λ _. refl) (λ _. refl) answer fit)
 name_is state (Get key etag from to) answer made fit sound answered makes = makes ∙ sym (makes_none (Get key etag from to) (λ _. refl) (λ _. refl) answer fit)
 name_is state (Delete key) answer made fit sound answered makes = makes ∙ sym (makes_none (Delete key) (λ _. refl) (λ _. refl) answer fit)
 name_is state (Part upload number bytes) answer made fit sound answered makes = makes ∙ sym (makes_none (Part upload number bytes) (λ _. refl) (λ _. refl) answer fit)
@@ -260,6 +264,52 @@ mirrors_reached false hides is_alone asked place answer old new was now counted 
     let same : now.log ≡ was.log = adds.log ∙ ap (λ es. was.log ++ es) (adds.alone alone) ∙ append-nil was.log in
     subst (λ log. Mirrors log now) (sym (is ∙ append-nil old)) (mirrors_log old was now (sym same) mirrors)
 
+-- a call that a page answers leaves the state, and makes no version
+page_leaves : (state : BucketState) (asked : Call) (page : Page) (answer : Brief) (took : Bool) (made : Option Name) → fits asked (brief.Page page) ≡ true → after state (logged_as asked answer took made) ≡ state
+page_leaves state asked page answer false made fit = refl
+page_leaves state (Delete key) page answer true made fit = absurd (cc)
+page_leaves state (Put key bytes) page answer true made fit = absurd (cc)
+page_leaves state (Create key) page answer true made fit = absurd (cc)
+page_leaves state (Part upload number bytes) page answer true made fit = absurd (cc)
+page_leaves state (Complete upload parts) page answer true made fit = absurd (cc)
+page_leaves state (Abort upload) page answer true made fit = absurd (cc)
+page_leaves state asked page answer true made fit = refl
+
+none_paged : (state : BucketState) (asked : Call) (page : Page) (answer : Brief) (took : Bool) (made : Option Name) → fits asked (brief.Page page) ≡ true → version_made state (logged_as asked answer took made) ≡ None
+none_paged state (Put key bytes) page answer took made fit = absurd (cc)
+none_paged state (Complete upload parts) page answer took made fit = absurd (cc)
+none_paged state asked page answer took made fit = refl
+
+-- the inner store has one entry more, which leaves the state and makes no version
+mirrors_past : (log : List Logged) (own : Logged) (told : History) → after (replay told.log) own ≡ replay told.log → version_made (replay told.log) own ≡ None → Mirrors log told
+    → Mirrors log (record { log = told.log ++ own ∷ []; versions = told.versions })
+mirrors_past log own told leaves none mirrors = record {
+  legal = mirrors.legal;
+  state = mirrors.state ∙ sym (replay_push told.log own ∙ leaves);
+  versions = mirrors.versions ∙ sym (versions_push told.log own ∙ ap (λ o. versions_of told.log ++ option_to_list o) none ∙ append-nil (versions_of told.log));
+  uploads = λ upload new. mirrors.uploads upload (new_front told.log own upload new);
+}
+
+-- the inner store answered a page, and its entry isn't added
+mirrors_lost : (is_alone : Type 0) (asked : Call) (place : ℕ) (page : Page) (log : List Logged) (was now : History) → fits asked (brief.Page page) ≡ true → is_alone → AddsEntry is_alone asked place (brief.Page page) was now
+    → Mirrors log was → Mirrors log now
+mirrors_lost is_alone asked place page log was now fit alone adds mirrors =
+    let own = adds.own in
+    let none = adds.alone alone in
+    let grown : now.log ≡ was.log ++ own ∷ [] = adds.log ∙ ap (λ es. was.log ++ (es ++ own ∷ adds.later)) none.0 ∙ ap (λ es. was.log ++ own ∷ es) none.1 in
+    let fits_own : fits own.entry.call (brief.Page page) ≡ true = rw adds.asks fit in
+    let leaves = page_leaves (replay was.log) own.entry.call page own.entry.answer own.entry.took own.made fits_own in
+    let makes = none_paged (replay was.log) own.entry.call page own.entry.answer own.entry.took own.made fits_own in
+    mirrors_log log (record { log = was.log ++ own ∷ []; versions = was.versions }) now (sym grown) (mirrors_past log own was leaves makes mirrors)
+
+still_lost : (is_alone : Type 0) (asked : Call) (place : ℕ) (page : Page) (old new : List Logged) (was now : Option History) → fits asked (brief.Page page) ≡ true → OnSome was is_alone → Tells is_alone asked place (brief.Page page) was now → new ≡ old
+    → IfSome was (Mirrors old) → IfSome now (Mirrors new)
+still_lost is_alone asked place page old new None None fit alone told is mirrors = tt
+still_lost is_alone asked place page old new None (Some now) fit alone told is mirrors = absurd told
+still_lost is_alone asked place page old new (Some was) None fit alone told is mirrors = absurd told
+still_lost is_alone asked place page old new (Some was) (Some now) fit alone told is mirrors =
+    subst (λ log. Mirrors log now) (sym is) (mirrors_lost is_alone asked place page old was now fit alone told mirrors)
+
 -- what holds where a store tells goes on to hold
 still_on : (P Q is_alone : Type 0) (asked : Call) (place : ℕ) (answer : Brief) (was now : Option History) → Tells is_alone asked place answer was now → (P → Q) → OnSome was P → OnSome now Q
 still_on P Q is_alone asked place answer None None told keeps holds = tt
@@ -299,6 +349,29 @@ module _ {S : Type 0} (position : S → ℕ) (history : S → Option History) (f
         mirrors = still_mirrors hides (is_alone old.inner) asked reaches.place reaches.said old.log.items new.log.items (history old.inner) (history new.inner) called.kind sound honest.alone (law (called.honest honest.honest)) called.told reaches.log honest.mirrors;
       }
 
+  honest_lost : (asked : Call) (answer : Answer) (old new : Faulty S) → LosesPage (IsCalled position history faults is_alone never_fails is_honest asked) answer old new
+      → IsHonest (is_honest old.inner) (is_alone old.inner) (never_fails old.inner) (history old.inner) old.log.items
+      → IsHonest (is_honest new.inner) (is_alone new.inner) (never_fails new.inner) (history new.inner) new.log.items
+  honest_lost asked answer old new lost honest =
+      let called = lost.called in
+      record {
+        honest = called.honest honest.honest;
+        alone = still_on (is_alone old.inner) (is_alone new.inner) (is_alone old.inner) asked lost.place (brief.Page lost.page) (history old.inner) (history new.inner) called.told called.alone honest.alone;
+        sound = still_on (never_fails old.inner) (never_fails new.inner) (is_alone old.inner) asked lost.place (brief.Page lost.page) (history old.inner) (history new.inner) called.told (λ never. (called.never never).1) honest.sound;
+        mirrors = still_lost (is_alone old.inner) asked lost.place lost.page old.log.items new.log.items (history old.inner) (history new.inner) called.kind honest.alone called.told lost.log honest.mirrors;
+      }
+
+  honest_conveys : (asked : Call) (hides : Bool) (answer : Answer) (old new : Faulty S) → Conveys (IsCalled position history faults is_alone never_fails is_honest asked) asked hides answer old new
+      → (is_honest new.inner → (told : History) → history new.inner ≡ Some told → IsLegalHistory told.log)
+      → IsHonest (is_honest old.inner) (is_alone old.inner) (never_fails old.inner) (history old.inner) old.log.items
+      → IsHonest (is_honest new.inner) (is_alone new.inner) (never_fails new.inner) (history new.inner) new.log.items
+  honest_conveys asked true answer old new reaches law honest = honest_reaches asked true answer old new reaches law honest
+  honest_conveys asked false answer old new conveys law honest =
+      elim conveys [
+        | inl reaches ↦ honest_reaches asked false answer old new reaches law honest
+        | inr lost ↦ honest_lost asked answer old new lost honest
+      ]
+
   honest_serves : (listed : Option When) (asked : Call) (answer : Answer) (old new : Faulty S) → MayBeMade asked → Serves listed (IsCalled position history faults is_alone never_fails is_honest asked) asked answer old new
       → (is_honest new.inner → (told : History) → history new.inner ≡ Some told → IsLegalHistory told.log)
       → IsHonest (is_honest old.inner) (is_alone old.inner) (never_fails old.inner) (history old.inner) old.log.items
@@ -310,8 +383,8 @@ module _ {S : Type 0} (position : S → ℕ) (history : S → Option History) (f
         sound = honest.sound;
         mirrors = before_on asked old.log.items new.log.items (history old.inner) may fails.log honest.mirrors;
       })
-  honest_serves (Some After) asked answer old new may reaches law honest = honest_reaches asked true answer old new reaches law honest
-  honest_serves None asked answer old new may reaches law honest = honest_reaches asked false answer old new reaches law honest
+  honest_serves (Some After) asked answer old new may conveys law honest = honest_conveys asked true answer old new conveys law honest
+  honest_serves None asked answer old new may conveys law honest = honest_conveys asked false answer old new conveys law honest
 
   pub honest_served : (asked : Call) (answer : Answer) (old new : Faulty S) → MayBeMade asked → IsServed (IsCalled position history faults is_alone never_fails is_honest asked) asked answer old new
       → (is_honest new.inner → (told : History) → history new.inner ≡ Some told → IsLegalHistory told.log)

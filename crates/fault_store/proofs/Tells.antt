@@ -4,7 +4,9 @@ use Rattle.bucket_model.specs.declared.call.Call.{Call}
 use Rattle.bucket_model.specs.declared.answer.Answer.{Answer}
 use Rattle.bucket_model.specs.declared.answer.Answer.TheVariants as said
 use Rattle.bucket_model.specs.declared.answer.Brief.{Brief}
+use Rattle.bucket_model.specs.declared.answer.Brief.TheVariants as brief
 use Rattle.bucket_model.specs.declared.answer.Brief.TheVariants.{Fault, NoMemory}
+use Rattle.bucket_model.specs.declared.page.Page.{Page}
 use Rattle.bucket_model.specs.declared.history.Logged.{Logged}
 use Rattle.bucket_model.specs.Answers.{brief_of, fits, is_counted}
 use Rattle.bucket_model.specs.History.{History}
@@ -15,7 +17,7 @@ use Rattle.fault_store.specs.declared.faulty.When.TheVariants.{Before, After}
 use Rattle.fault_store.specs.Called.{IsCalled}
 use Rattle.fault_store.specs.Counts.{risen}
 use Rattle.fault_store.specs.Entries.{entries_of, entry_after, entry_before, shown}
-use Rattle.fault_store.specs.Faulty.{IsServed, Reaches, Serves, told_by, told_with, when_at}
+use Rattle.fault_store.specs.Faulty.{Conveys, IsServed, Reaches, Serves, told_by, told_with, when_at}
 
 pub none_change : AreChanges []
 none_change = λ logged among. absurd (omega (arith, among.1))
@@ -65,6 +67,14 @@ tells_before : (is_alone : Type 0) (asked : Call) (old new : List Logged) (was :
 tells_before is_alone asked old new None is = tt
 tells_before is_alone asked old new (Some was) is = adds_own is_alone asked Fault (entry_before asked) old new was was refl refl refl is (kept_versions was)
 
+-- the inner store answers a page, and no entry is added
+tells_lost : (is_alone : Type 0) (asked : Call) (inner_place place : ℕ) (page : Page) (old new : List Logged) (was now : Option History) → Tells is_alone asked inner_place (brief.Page page) was now → new ≡ old
+    → Tells is_alone asked place NoMemory (told_by old was) (told_by new now)
+tells_lost is_alone asked inner_place place page old new None None told is = tt
+tells_lost is_alone asked inner_place place page old new None (Some now) told is = absurd told
+tells_lost is_alone asked inner_place place page old new (Some was) None told is = absurd told
+tells_lost is_alone asked inner_place place page old new (Some was) (Some now) told is = adds_none is_alone asked place NoMemory old new was now refl is told.versions
+
 tells_short : (is_alone : Type 0) (asked : Call) (place : ℕ) (old new : List Logged) (was : Option History) → new ≡ old → Tells is_alone asked place NoMemory (told_by old was) (told_by new was)
 tells_short is_alone asked place old new None is = tt
 tells_short is_alone asked place old new (Some was) is = adds_none is_alone asked place NoMemory old new was was refl is (kept_versions was)
@@ -92,6 +102,10 @@ reached_longer : (counted hides : Bool) (asked : Call) (answer : Answer) (old ne
 reached_longer true hides asked answer old new counted is counts = longer old new (entry_after asked (brief_of (shown true hides answer)) (brief_of answer)) is
 reached_longer false hides asked answer old new counted is counts = absurd (cc)
 
+-- want of memory has no entry
+not_counted : (answer : Answer) → answer ≡ said.NoMemory → is_counted (brief_of answer) ≡ true → ⊥
+not_counted answer is counts = let same : is_counted (brief_of said.NoMemory) ≡ true = sym (ap (λ a. is_counted (brief_of a)) is) ∙ counts in absurd (cc)
+
 -- a fault may come of any call
 kind_shown : (counted hides : Bool) (asked : Call) (answer : Answer) → fits asked (brief_of answer) ≡ true → fits asked (brief_of (shown counted hides answer)) ≡ true
 kind_shown true true asked answer kind = refl
@@ -102,10 +116,14 @@ module _ {S : Type 0} (position : S → ℕ) (history : S → Option History) (f
   kind_reaches : (asked : Call) (hides : Bool) (answer : Answer) (old new : Faulty S) → Reaches (IsCalled position history faults is_alone never_fails is_honest asked) asked hides answer old new → fits asked (brief_of answer) ≡ true
   kind_reaches asked hides answer old new reaches = rw reaches.answer_is (kind_shown (is_counted (brief_of reaches.said)) hides asked reaches.said reaches.called.kind)
 
+  kind_conveys : (asked : Call) (hides : Bool) (answer : Answer) (old new : Faulty S) → Conveys (IsCalled position history faults is_alone never_fails is_honest asked) asked hides answer old new → fits asked (brief_of answer) ≡ true
+  kind_conveys asked true answer old new reaches = kind_reaches asked true answer old new reaches
+  kind_conveys asked false answer old new conveys = elim conveys [ inl reaches ↦ kind_reaches asked false answer old new reaches | inr lost ↦ rw lost.answer_is refl ]
+
   kind_serves : (listed : Option When) (asked : Call) (answer : Answer) (old new : Faulty S) → Serves listed (IsCalled position history faults is_alone never_fails is_honest asked) asked answer old new → fits asked (brief_of answer) ≡ true
   kind_serves (Some Before) asked answer old new fails = rw fails.answer_is refl
-  kind_serves (Some After) asked answer old new reaches = kind_reaches asked true answer old new reaches
-  kind_serves None asked answer old new reaches = kind_reaches asked false answer old new reaches
+  kind_serves (Some After) asked answer old new conveys = kind_conveys asked true answer old new conveys
+  kind_serves None asked answer old new conveys = kind_conveys asked false answer old new conveys
 
   pub kind_served : (asked : Call) (answer : Answer) (old new : Faulty S) → IsServed (IsCalled position history faults is_alone never_fails is_honest asked) asked answer old new → fits asked (brief_of answer) ≡ true
   kind_served asked answer old new served =
@@ -120,12 +138,21 @@ module _ {S : Type 0} (position : S → ℕ) (history : S → Option History) (f
       rw reaches.answer_is
       (tells_reached hides (is_alone old.inner) asked reaches.place reaches.said old.log.items new.log.items (history old.inner) (history new.inner) reaches.called.told reaches.log)
 
+  tells_conveys : (asked : Call) (hides : Bool) (answer : Answer) (old new : Faulty S) → Conveys (IsCalled position history faults is_alone never_fails is_honest asked) asked hides answer old new
+      → Tells (is_alone old.inner) asked (length old.log.items) (brief_of answer) (told_by old.log.items (history old.inner)) (told_by new.log.items (history new.inner))
+  tells_conveys asked true answer old new reaches = tells_reaches asked true answer old new reaches
+  tells_conveys asked false answer old new conveys =
+      elim conveys [
+        | inl reaches ↦ tells_reaches asked false answer old new reaches
+        | inr lost ↦ rw lost.answer_is (tells_lost (is_alone old.inner) asked lost.place (length old.log.items) lost.page old.log.items new.log.items (history old.inner) (history new.inner) lost.called.told lost.log)
+      ]
+
   tells_serves : (listed : Option When) (asked : Call) (answer : Answer) (old new : Faulty S) → Serves listed (IsCalled position history faults is_alone never_fails is_honest asked) asked answer old new
       → Tells (is_alone old.inner) asked (length old.log.items) (brief_of answer) (told_by old.log.items (history old.inner)) (told_by new.log.items (history new.inner))
   tells_serves (Some Before) asked answer old new fails =
       rw (fails.answer_is, fails.inner) (tells_before (is_alone old.inner) asked old.log.items new.log.items (history old.inner) fails.log)
-  tells_serves (Some After) asked answer old new reaches = tells_reaches asked true answer old new reaches
-  tells_serves None asked answer old new reaches = tells_reaches asked false answer old new reaches
+  tells_serves (Some After) asked answer old new conveys = tells_conveys asked true answer old new conveys
+  tells_serves None asked answer old new conveys = tells_conveys asked false answer old new conveys
 
   pub tells_served : (asked : Call) (answer : Answer) (old new : Faulty S) → IsServed (IsCalled position history faults is_alone never_fails is_honest asked) asked answer old new
       → Tells (is_alone old.inner) asked (length old.log.items) (brief_of answer) (told_by old.log.items (history old.inner)) (told_by new.log.items (history new.inner))
@@ -140,25 +167,38 @@ module _ {S : Type 0} (position : S → ℕ) (history : S → Option History) (f
   counted_reaches asked hides answer old new reaches counts =
       reached_longer (is_counted (brief_of reaches.said)) hides asked reaches.said old.log.items new.log.items refl reaches.log (sym (ap (λ a. is_counted (brief_of a)) reaches.answer_is) ∙ counts)
 
+  counted_conveys : (asked : Call) (hides : Bool) (answer : Answer) (old new : Faulty S) → Conveys (IsCalled position history faults is_alone never_fails is_honest asked) asked hides answer old new
+      → is_counted (brief_of answer) ≡ true → length old.log.items < length new.log.items
+  counted_conveys asked true answer old new reaches counts = counted_reaches asked true answer old new reaches counts
+  counted_conveys asked false answer old new conveys counts =
+      elim conveys [
+        | inl reaches ↦ counted_reaches asked false answer old new reaches counts
+        | inr lost ↦ absurd (not_counted answer lost.answer_is counts)
+      ]
+
   counted_serves : (listed : Option When) (asked : Call) (answer : Answer) (old new : Faulty S) → Serves listed (IsCalled position history faults is_alone never_fails is_honest asked) asked answer old new
       → is_counted (brief_of answer) ≡ true → length old.log.items < length new.log.items
   counted_serves (Some Before) asked answer old new fails counts = longer old.log.items new.log.items (entry_before asked) fails.log
-  counted_serves (Some After) asked answer old new reaches counts = counted_reaches asked true answer old new reaches counts
-  counted_serves None asked answer old new reaches counts = counted_reaches asked false answer old new reaches counts
+  counted_serves (Some After) asked answer old new conveys counts = counted_conveys asked true answer old new conveys counts
+  counted_serves None asked answer old new conveys counts = counted_conveys asked false answer old new conveys counts
 
   pub counted_served : (asked : Call) (answer : Answer) (old new : Faulty S) → IsServed (IsCalled position history faults is_alone never_fails is_honest asked) asked answer old new
       → is_counted (brief_of answer) ≡ true → length old.log.items < length new.log.items
   counted_served asked answer old new served counts =
       elim served.served [
-        | inl short ↦ let same : is_counted (brief_of said.NoMemory) ≡ true = sym (ap (λ a. is_counted (brief_of a)) short.answer_is) ∙ counts in absurd (cc)
+        | inl short ↦ absurd (not_counted answer short.answer_is counts)
         | inr serves ↦ counted_serves (when_at old.listed (risen old.calls)) asked answer old new serves counts
       ]
+
+  faults_conveys : (asked : Call) (hides : Bool) (answer : Answer) (old new : Faulty S) → Conveys (IsCalled position history faults is_alone never_fails is_honest asked) asked hides answer old new → faults old.inner ≤ faults new.inner
+  faults_conveys asked true answer old new reaches = reaches.called.faults_grow
+  faults_conveys asked false answer old new conveys = elim conveys [ inl reaches ↦ reaches.called.faults_grow | inr lost ↦ lost.called.faults_grow ]
 
   faults_serves : (listed : Option When) (asked : Call) (answer : Answer) (old new : Faulty S) → Serves listed (IsCalled position history faults is_alone never_fails is_honest asked) asked answer old new
       → faults old.inner ≤ faults new.inner
   faults_serves (Some Before) asked answer old new fails = omega (arith, ap faults fails.inner)
-  faults_serves (Some After) asked answer old new reaches = reaches.called.faults_grow
-  faults_serves None asked answer old new reaches = reaches.called.faults_grow
+  faults_serves (Some After) asked answer old new conveys = faults_conveys asked true answer old new conveys
+  faults_serves None asked answer old new conveys = faults_conveys asked false answer old new conveys
 
   pub faults_served : (asked : Call) (answer : Answer) (old new : Faulty S) → IsServed (IsCalled position history faults is_alone never_fails is_honest asked) asked answer old new
       → faults old.inner ≤ faults new.inner

@@ -6,6 +6,8 @@ use Rattle.std.specs.Ordering.{nat_cmp}
 use Rattle.bucket_model.specs.declared.call.Call.{Call}
 use Rattle.bucket_model.specs.declared.answer.Answer.{Answer}
 use Rattle.bucket_model.specs.declared.answer.Answer.TheVariants.{Fault, NoMemory}
+use Rattle.bucket_model.specs.declared.answer.Answer.TheVariants as said
+use Rattle.bucket_model.specs.declared.page.Page.{Page}
 use Rattle.bucket_model.specs.declared.history.Logged.{Logged}
 use Rattle.bucket_model.specs.Answers.{brief_of, is_counted}
 use Rattle.bucket_model.specs.History.{History, IsLegalHistory, IsNewUpload, replay, versions_of}
@@ -60,11 +62,25 @@ pub record Reaches {S : Type 0} (Called : ℕ → Answer → S → S → Type 0)
   pub log : new.log.items ≡ old.log.items ++ entries_of (is_counted (brief_of said)) hides asked said
   pub failed : new.failed ≡ failed_after (is_counted (brief_of said)) hides old.failed
 
+-- the inner store is called and answers a page whose items have too many owners, so there is no memory for its entry
+pub record LosesPage {S : Type 0} (Called : ℕ → Answer → S → S → Type 0) (answer : Answer) (old new : Faulty S) : Type 0 where
+  pub answer_is : answer ≡ NoMemory
+  pub place : ℕ
+  pub page : Page
+  pub called : Called place (said.Page page) old.inner new.inner
+  pub log : new.log.items ≡ old.log.items
+  pub failed : new.failed ≡ old.failed
+
+-- the inner store is called; only a page that is to be handed on can be lost
+abbrev pub Conveys : {S : Type 0} → (ℕ → Answer → S → S → Type 0) → Call → Bool → Answer → Faulty S → Faulty S → Type 0
+Conveys Called asked true answer old new = Reaches Called asked true answer old new
+Conveys Called asked false answer old new = Reaches Called asked false answer old new ⊎ LosesPage Called answer old new
+
 -- what a call does that is listed so, or isn't listed
 abbrev pub Serves : {S : Type 0} → Option When → (ℕ → Answer → S → S → Type 0) → Call → Answer → Faulty S → Faulty S → Type 0
 Serves (Some Before) Called asked answer old new = FailsBefore asked answer old new
-Serves (Some After) Called asked answer old new = Reaches Called asked true answer old new
-Serves None Called asked answer old new = Reaches Called asked false answer old new
+Serves (Some After) Called asked answer old new = Conveys Called asked true answer old new
+Serves None Called asked answer old new = Conveys Called asked false answer old new
 
 -- the next call is the same one, and what is listed for it stays
 pub record KeepsNumbers {S : Type 0} (old new : Faulty S) : Type 0 where

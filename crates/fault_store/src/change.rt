@@ -14,6 +14,7 @@ pub enum Change {
 }
 
 impl Change {
+    /// The change of a call that is one.
     pub fn from_call(call: Call) -> Self
         requires { IsChange call }
         ensures { call_of result ≡ call }
@@ -25,6 +26,7 @@ impl Change {
         }
     }
 
+    /// The call that makes this change.
     pub fn into_call(self) -> Call
         ensures { result ≡ call_of self }
     {

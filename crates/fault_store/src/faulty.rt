@@ -1,7 +1,7 @@
 ghost use Rattle.std.specs.Prelude.{◌≡◌, ℕ, ◌<◌, ◌≤◌, ◌+◌, ◌⊎◌, [], ◌∷◌, ◌++◌, length, IfSome, IfOk, OnSome, vec_len, vec_capacity};
 ghost use Rattle.bucket_model.specs.Answers.{MayBeMade};
 ghost use Rattle.fault_store.specs.Called.{IsCalled};
-ghost use Rattle.fault_store.specs.Faulty.{FailsBefore, IsHonest, IsServed, KeepsNumbers, Reaches, RunsShort, Starts, first_listed, told_by, when_at};
+ghost use Rattle.fault_store.specs.Faulty.{Conveys, FailsBefore, IsHonest, IsServed, KeepsNumbers, RunsShort, Starts, first_listed, told_by, when_at};
 ghost use Rattle.fault_store.specs.FaultyLaws.{position_is, honest_is_legal};
 
 use crate::log::{add_entry, is_counted, name_made};
@@ -81,11 +81,12 @@ impl<S: Store> Faulty<S> {
         Answer::Fault
     }
 
-    // Calls the inner store. Hiding its answer is answering a fault in its place.
+    // Calls the inner store. Hiding its answer is answering a fault in its place. A page whose items can't be shared
+    // with the log is lost: a listing changes nothing, so the call may still answer want of memory.
     fn reach(&mut self, call: Call, hides: bool) -> Answer
         requires room { vec_len self.old.log < vec_capacity self.old.log }
         requires may { MayBeMade call }
-        ensures reaches { RunsShort result self.old self.new ⊎ Reaches (IsCalled S.position S.history S.faults S.is_alone S.never_fails S.is_honest call) call hides result self.old self.new }
+        ensures reaches { RunsShort result self.old self.new ⊎ Conveys (IsCalled S.position S.history S.faults S.is_alone S.never_fails S.is_honest call) call hides result self.old self.new }
         ensures keeps { KeepsNumbers self.old self.new }
         ensures grows { self.old.failed ≤ self.new.failed }
     {
@@ -103,8 +104,13 @@ impl<S: Store> Faulty<S> {
             add_entry(&mut self.log, asked, Brief::Fault, true, made);
             Answer::Fault
         } else {
-            add_entry(&mut self.log, asked, said.brief(), true, made);
-            said
+            match said.brief() {
+                Ok(brief) => {
+                    add_entry(&mut self.log, asked, brief, true, made);
+                    said
+                }
+                Err(_) => Answer::NoMemory,
+            }
         }
     }
 

@@ -4,7 +4,7 @@ ghost use Rattle.fault_store.specs.Entries.{made_by};
 
 use bucket_model::{Answer, Brief, Call, HEntry, Logged, Name};
 
-// Whether an answer has an entry.
+/// Whether an answer has an entry.
 pub fn is_counted(answer: &Answer) -> bool
     ensures { result ≡ is_counted_brief (brief_of answer.now) }
 {
@@ -14,7 +14,7 @@ pub fn is_counted(answer: &Answer) -> bool
     }
 }
 
-// The name that an answer tells of.
+/// The name that an answer tells of.
 pub fn name_made(answer: &Answer) -> Option<Name>
     ensures { result ≡ made_by (brief_of answer.now) }
 {
@@ -25,7 +25,7 @@ pub fn name_made(answer: &Answer) -> Option<Name>
     }
 }
 
-// Adds an entry, for which the log has room.
+/// Adds an entry, for which the log has room.
 pub fn add_entry(log: &mut Vec<Logged>, call: Call, answer: Brief, took: bool, made: Option<Name>)
     requires { vec_len log.old < vec_capacity log.old }
     ensures { log.new.items ≡ log.old.items ++ record { entry = record { call = call; answer = answer; took = took }; made = made } ∷ [] }

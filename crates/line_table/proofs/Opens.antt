@@ -170,6 +170,7 @@ due_here number actor request.Await (Begun before) lines rising open_ =
       has_begun = record { standing = s; stands = rw (eq-eqb number number refl) refl; heard = before; phase = refl };
     }
 due_here number actor (request.Stat path) (Begun before) lines rising open_ = refl
+due_here number actor (request.List path) (Begun before) lines rising open_ = refl
 due_here number actor (request.OpenRead name path) (Begun before) lines rising open_ = refl
 due_here number actor (request.OpenWrite name path) (Begun before) lines rising open_ = refl
 due_here number actor (request.OpenTruncate name path) (Begun before) lines rising open_ = refl
@@ -190,6 +191,7 @@ awaited_is s n is = by_phase s.phase is
     of_await before (request.Put key content) is = absurd (cc)
     of_await before request.Await is = cc
     of_await before (request.Stat path) is = absurd (cc)
+    of_await before (request.List path) is = absurd (cc)
     of_await before (request.OpenRead name path) is = absurd (cc)
     of_await before (request.OpenWrite name path) is = absurd (cc)
     of_await before (request.OpenTruncate name path) is = absurd (cc)

@@ -6,7 +6,7 @@ use mount_model::{Line, Phase, Standing};
 use std::alloc::{AllocError, Global};
 use std::collections::{BTreeMap, BTreeSet};
 
-// For each line the number of the next line of its actor, by one pass from the last line up.
+/// For each line the number of the next line of its actor, by one pass from the last line up.
 pub fn find_followers(alloc: Global, lines: &[Line]) -> Result<Vec<Option<u32>>, AllocError>
     ensures { IfOk result (λ followers. followers.items ≡ followers_of lines.now) }
 {
@@ -23,7 +23,7 @@ pub fn find_followers(alloc: Global, lines: &[Line]) -> Result<Vec<Option<u32>>,
     Ok(followers)
 }
 
-// The numbers of the lines that may begin at once, in a vector with room for each line.
+/// The numbers of the lines that may begin at once, in a vector with room for each line.
 pub fn find_startable(alloc: Global, lines: &[Line]) -> Result<Vec<u32>, AllocError>
     ensures { IfOk result (λ numbers. (numbers.items ≡ startable (map waiting lines.now)) × (length lines.now ≤ vec_capacity numbers)) }
 {
@@ -38,7 +38,7 @@ pub fn find_startable(alloc: Global, lines: &[Line]) -> Result<Vec<u32>, AllocEr
     Ok(numbers)
 }
 
-// All lines, before any begins.
+/// All lines, before any begins.
 pub fn wait_all(alloc: Global, lines: Vec<Line>) -> Result<Vec<Standing>, AllocError>
     ensures { IfOk result (λ standings. standings.items ≡ map waiting lines.items) }
 {

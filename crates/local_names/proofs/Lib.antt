@@ -3,4 +3,7 @@ mod GivenUp
 mod Loops
 mod Names
 mod Tables
+mod Shown
 mod Under
+mod Prefixes
+mod Directory

@@ -31,6 +31,10 @@ bare = record { kind = local.None; below = 0 }
 abbrev pub is_bare : Node → Bool
 is_bare node = is_none node.kind && node.below == 0
 
+-- what is local at the node: with names below it, a directory
+abbrev pub shown : Node → Local
+shown node = if node.below == 0 then node.kind else local.Dir
+
 abbrev pub kept : Node → Option Node
 kept node = if is_bare node then None else Some node
 

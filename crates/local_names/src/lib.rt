@@ -3,6 +3,7 @@
 #![tactic(auto)]
 
 mod above;
+mod children;
 mod locals;
 mod nodes;
 

@@ -1,10 +1,12 @@
-ghost use Rattle.std.specs.Prelude.{◌≡◌, ◌<◌, false, length, IsSome, OnOk, OnErr};
+ghost use Rattle.std.specs.Prelude.{◌≡◌, ◌<◌, false, length, IsSome, IfOk, OnOk, OnErr};
 ghost use Rattle.std.specs.FinMap as map;
 ghost use Rattle.mp_rules.specs.Local.{no_names, with_dir, with_file, without_name, without_file, without_dirs_above, has_name_below, local_at};
 ghost use Rattle.local_names.specs.Names.{is_name, with_name, without_dir};
 ghost use Rattle.local_names.specs.Nodes.{is_none};
+ghost use Rattle.local_names.specs.Children.{AreChildren};
 
 use crate::above::parent;
+use crate::children::{Child, children};
 use crate::nodes::{Nodes, add_name, node_at, remove_name, set_size};
 use mp_rules::Local;
 use mp_types::Key;
@@ -122,6 +124,16 @@ impl Locals {
         ensures { result ≡ has_name_below self.now key.now }
     {
         node_at(&self.nodes, key).below > 0
+    }
+
+    /// The names directly in the directory of a prefix, in order, and what is local at each. It takes the time and the
+    /// memory of the names, however many stand below them.
+    pub fn children(&self, alloc: Global, prefix: &str) -> Result<Vec<Child>, AllocError>
+        ensures { IfOk result (λ children. AreChildren self.now prefix.now children.items) }
+    {
+        // The keys of a map rise.
+        let _len = self.nodes.len();
+        children(&self.nodes, alloc, prefix)
     }
 
     fn remove_dir(&mut self, key: &str)

@@ -2,7 +2,7 @@ ghost use Rattle.std.specs.Prelude.{◌≡◌, ◌+◌, ◌≤◌, ◌<◌, ◌^
 ghost use Rattle.std.specs.BTreeMap.{get_by_text};
 ghost use Rattle.std.specs.Str.{bytes_eq};
 ghost use Rattle.mp_rules.specs.declared.entry.Local.TheVariants as local;
-ghost use Rattle.local_names.specs.Nodes.{is_bare, kept, node_in, kind_in, count_in, has_node, is_none, is_dir, is_file};
+ghost use Rattle.local_names.specs.Nodes.{is_bare, kept, node_in, kind_in, count_in, has_node, is_none, is_dir, is_file, shown};
 ghost use Rattle.local_names.specs.Under.{is_under, one};
 
 use crate::above::parent;
@@ -52,10 +52,21 @@ impl Node {
         matches!(self.kind, Local::File { .. })
     }
 
-    fn is_bare(self) -> bool
+    /// Whether no name is kept here or below.
+    pub fn is_bare(self) -> bool
         ensures { result ≡ is_bare self }
     {
         !self.is_name() && self.below == 0
+    }
+
+    /// What is local here: with names below it, a directory.
+    pub fn shown(self) -> Local
+        ensures { result ≡ shown self }
+    {
+        if self.below == 0 {
+            return self.kind;
+        }
+        Local::Dir
     }
 }
 

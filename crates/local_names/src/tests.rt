@@ -138,3 +138,49 @@ fn only_a_file_is_removed_as_a_file(rt: HostRuntime) -> Result<(), Fail> {
     assert_eq!(rt; locals.at("a"), Local::None);
     Ok(())
 }
+
+// `NAME/` of a directory and `NAME:SIZE` of a file, for each name in the directory of a prefix.
+fn children(locals: &Locals, alloc: Global, prefix: &str) -> Result<String, Fail> {
+    let mut text = String::new(alloc);
+    for (name, local) in locals.children(alloc, prefix)? {
+        let shown = match local {
+            Local::None => format!(in alloc; "{} ", name.as_str())?,
+            Local::Dir => format!(in alloc; "{}/ ", name.as_str())?,
+            Local::File { size } => format!(in alloc; "{}:{size} ", name.as_str())?,
+        };
+        text.push_str(shown.as_str())?;
+    }
+    Ok(text)
+}
+
+#[test]
+fn a_directory_has_the_names_in_it(rt: HostRuntime) -> Result<(), Fail> {
+    let alloc = rt.alloc();
+    let mut locals = Locals::new(alloc);
+    add(&mut locals, alloc, "a/b/c", NEW_FILE)?;
+    add(&mut locals, alloc, "a/b!x", Local::Dir)?;
+    add(&mut locals, alloc, "a/b0", NEW_FILE)?;
+    add(&mut locals, alloc, "ab", NEW_FILE)?;
+    resize(&mut locals, alloc, "a/b0", 6)?;
+    assert_eq!(rt; children(&locals, alloc, "a/")?.as_str(), "b/ b!x/ b0:6 ");
+    assert_eq!(rt; children(&locals, alloc, "")?.as_str(), "a/ ab:0 ");
+    assert_eq!(rt; children(&locals, alloc, "a/b/")?.as_str(), "c:0 ");
+    assert_eq!(rt; children(&locals, alloc, "b/")?.as_str(), "");
+    Ok(())
+}
+
+#[test]
+fn a_directory_has_no_names_that_were_removed(rt: HostRuntime) -> Result<(), Fail> {
+    let alloc = rt.alloc();
+    let mut locals = Locals::new(alloc);
+    add(&mut locals, alloc, "d", Local::Dir)?;
+    add(&mut locals, alloc, "d/e/f", NEW_FILE)?;
+    add(&mut locals, alloc, "d/e/g", Local::Dir)?;
+    assert_eq!(rt; children(&locals, alloc, "d/")?.as_str(), "e/ ");
+    assert!(rt; locals.remove("d/e/f"));
+    assert_eq!(rt; children(&locals, alloc, "d/e/")?.as_str(), "g/ ");
+    assert!(rt; locals.remove("d/e/g"));
+    assert_eq!(rt; children(&locals, alloc, "d/")?.as_str(), "");
+    assert_eq!(rt; children(&locals, alloc, "")?.as_str(), "d/ ");
+    Ok(())
+}

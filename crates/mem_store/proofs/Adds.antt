@@ -2,7 +2,7 @@
 use Rattle.std.proofs.Common.{◌≡◌, ℕ, List, [], ◌∷◌, ◌++◌, length, refl, sym, ap, ◌∙◌, append-nil, arith}
 use Rattle.std.specs.Option.{option_to_list}
 use Rattle.bucket_model.specs.declared.answer.Brief.{Brief}
-use Rattle.bucket_model.specs.declared.answer.Brief.TheVariants.{Found, Missing, Yes, No, Bytes, Changed, Gone, Made, Upload, Stored, NoUpload, Fault, NoMemory}
+use Rattle.bucket_model.specs.declared.answer.Brief.TheVariants.{Found, Missing, Yes, No, Page, Bytes, Changed, Gone, Made, Upload, Stored, NoUpload, Fault, NoMemory}
 use Rattle.bucket_model.specs.declared.call.Call.{Call}
 use Rattle.bucket_model.specs.declared.history.Logged.{Logged}
 use Rattle.bucket_model.specs.Bucket.{version_made}
@@ -43,6 +43,7 @@ adds_as_served call asked old new place (Found etag size) is at_end served = add
 adds_as_served call asked old new place Missing is at_end served = adds_entry call asked old new place Missing is at_end served.1
 adds_as_served call asked old new place Yes is at_end served = adds_entry call asked old new place Yes is at_end served.1
 adds_as_served call asked old new place No is at_end served = adds_entry call asked old new place No is at_end served.1
+adds_as_served call asked old new place (Page page) is at_end served = adds_entry call asked old new place (Page page) is at_end served.1
 adds_as_served call asked old new place (Bytes count) is at_end served = adds_entry call asked old new place (Bytes count) is at_end served.1
 adds_as_served call asked old new place Changed is at_end served = adds_entry call asked old new place Changed is at_end served.1
 adds_as_served call asked old new place Gone is at_end served = adds_entry call asked old new place Gone is at_end served.1

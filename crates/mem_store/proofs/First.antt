@@ -9,7 +9,7 @@ use Rattle.std.specs.Prelude.{nat_eq}
 use Rattle.std.specs.declared.ops.Bound.TheVariants.{Included, Unbounded}
 use Rattle.bucket_model.specs.declared.history.Object.{Object}
 use Rattle.mem_store.specs.Served.{Finds}
-use Rattle.mem_store.proofs.Prefixes.{between, from_start}
+use Rattle.mp_types.proofs.Prefixes.{between, from_start}
 
 some_from : (o : Option Object) (object : Object) → o ≡ Some object → IsSome o
 some_from o object is = let P : Option Object → Type 0 = λ x. IsSome x in subst P (sym is) refl

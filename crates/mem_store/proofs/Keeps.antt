@@ -1,11 +1,11 @@
 -- What one answered call does to what a bucket in memory keeps.
-use Rattle.std.proofs.Common.{◌≡◌, ℕ, ◌≤◌, true, cond, List, [], ◌∷◌, ◌++◌, length, Option, None, sym, refl, ap, ◌∙◌, subst, arith, BTreeMap}
+use Rattle.std.proofs.Common.{◌≡◌, ℕ, ◌≤◌, Bool, true, false, cond, IsSome, List, [], ◌∷◌, ◌++◌, length, Option, None, sym, refl, ap, ◌∙◌, subst, arith, BTreeMap}
 use Rattle.std.specs.BTreeMap as tree
 use Rattle.std.specs.BTreeMap.{Updates, is_at}
-use Rattle.std.specs.Cmp.{eq_by_cmp_equiv}
+use Rattle.std.specs.Cmp.{Equal-is, eq_by_cmp_equiv}
 use Rattle.std.specs.Cmp.Lexicographic.{slice_cmp, nat_list_cmp_total}
 use Rattle.std.specs.FinMap as map
-use Rattle.std.specs.FinMap.{get-empty}
+use Rattle.std.specs.FinMap.{get-empty, nat_cmp-IsAntisymmetric, slice_cmp-IsAntisymmetric}
 use Rattle.std.specs.Map.{lookup}
 use Rattle.std.specs.Ordering.{eq_by_cmp, nat_cmp}
 use Rattle.std.proofs.lemmas.List.FromFn.{length-range_with_len}
@@ -17,6 +17,7 @@ use Rattle.bucket_model.specs.Answers.{MayBeMade}
 use Rattle.bucket_model.specs.Bucket.{BucketState, empty_bucket, ObjectVersion, after, object_at, version_made}
 use Rattle.bucket_model.specs.History.{replay, versions_of, IsLegalEntry, MakesName, MayAnswer}
 use Rattle.mem_store.specs.Kept.{AreNumbered, IsKept, Kept}
+use Rattle.mem_store.specs.Listed.{HaveKeyTexts, IsKeyText}
 use Rattle.mem_store.specs.Served.{entry_of, IsServed, made_by, Serves, upload_in, uploads_made}
 use Rattle.mem_store.specs.Uploads.{Uploads}
 use Rattle.mem_store.proofs.Counts.{IsNextUpload, IsNextVersion, counted_next, ids_next, numbered_next}
@@ -31,6 +32,7 @@ pub record Answered (kept now : Kept) (log : List Logged) (asked : Call) (answer
   pub entry : IsLegalEntry log (entry_of asked answer)
   pub serves : (new : List Logged) → new ≡ with_entry log asked answer → Serves asked log new answer
   pub stands : (key : List ℕ) → object_at (after (replay log) (entry_of asked answer)) key ≡ tree.get (slice_cmp nat_cmp) now.objects key
+  pub keys : HaveKeyTexts now.objects
   pub staged : (after (replay log) (entry_of asked answer)).uploads ≡ now.uploads
   pub version : IsNextVersion kept.versions now.versions (version_made (replay log) (entry_of asked answer))
   pub upload : IsNextUpload kept.created now.created (upload_in (made_by answer))
@@ -41,6 +43,7 @@ keeps_entry kept now log asked answer answered before =
     let Numbered : List ObjectVersion → Type 0 = λ made. AreNumbered made in
     record {
       stands = λ key. ap (λ state. object_at state key) (replay_push log logged) ∙ answered.stands key;
+      keys = answered.keys;
       staged = ap (λ (state : BucketState). state.uploads) (replay_push log logged) ∙ answered.staged;
       legal = legal_push log logged before.legal answered.entry;
       numbered = subst Numbered (sym (versions_push log logged)) (numbered_next (versions_of log) _ kept.versions now.versions before.numbered before.counted answered.version);
@@ -80,6 +83,7 @@ reads kept log asked answer before entry serves same no_version none = record {
   entry = entry;
   serves = serves;
   stands = λ key. ap (λ state. object_at state key) same ∙ before.stands key;
+  keys = before.keys;
   staged = ap (λ (state : BucketState). state.uploads) same ∙ before.staged;
   version = subst (IsNextVersion kept.versions kept.versions) (sym no_version) refl;
   upload = subst (IsNextUpload kept.created kept.created) (sym (ap upload_in none)) refl;
@@ -92,6 +96,30 @@ pub changed_at : (objects changed : BTreeMap (List ℕ) Object) (old new : Bucke
 changed_at objects changed old new key value stands changes updates q =
     changes q ∙ ap (λ o. cond (eq_by_cmp (slice_cmp nat_cmp) q key) value o) (stands q)
     ∙ ap (λ b. cond b value (tree.get (slice_cmp nat_cmp) objects q)) ((eq_by_cmp_equiv nat_list_cmp_total).symm q key) ∙ sym (updates.0 q)
+
+-- keys stay as long as keys may be
+some_at : (q key : List ℕ) (b : Bool) (value stood : Option Object) → eq_by_cmp (slice_cmp nat_cmp) key q ≡ b → IsKeyText key → (IsSome stood → IsKeyText q) → IsSome (cond b value stood) → IsKeyText q
+some_at q key true value stood at fits old some =
+    let P : List ℕ → Type 0 = λ k. IsKeyText k in
+    subst P (slice_cmp-IsAntisymmetric nat_cmp-IsAntisymmetric key q ((Equal-is (slice_cmp nat_cmp key q)).0 at)) fits
+some_at q key false value stood at fits old some = old some
+
+some_along : (a b : Option Object) → a ≡ b → IsSome a → IsSome b
+some_along a b is some = let P : Option Object → Type 0 = λ o. IsSome o in subst P is some
+
+pub keys_at : (objects changed : BTreeMap (List ℕ) Object) (key : List ℕ) (value : Option Object) → HaveKeyTexts objects → IsKeyText key → Updates (slice_cmp nat_cmp) objects changed key value → HaveKeyTexts changed
+keys_at objects changed key value keys fits updates = λ q some. some_at q key (eq_by_cmp (slice_cmp nat_cmp) key q) value (tree.get (slice_cmp nat_cmp) objects q) refl fits (keys q) (some_along _ _ (updates.0 q) some)
+
+none_some : (o : Option Object) → o ≡ None → IsSome o → ⊥
+none_some o none some = absurd (cc)
+
+-- a key less
+keys_less_at : (q key : List ℕ) (b : Bool) (stood : Option Object) → (IsSome stood → IsKeyText q) → IsSome (cond b None stood) → IsKeyText q
+keys_less_at q key true stood old some = absurd (none_some None refl some)
+keys_less_at q key false stood old some = old some
+
+pub keys_less : (objects changed : BTreeMap (List ℕ) Object) (key : List ℕ) → HaveKeyTexts objects → Updates (slice_cmp nat_cmp) objects changed key None → HaveKeyTexts changed
+keys_less objects changed key keys updates = λ q some. keys_less_at q key (eq_by_cmp (slice_cmp nat_cmp) key q) (tree.get (slice_cmp nat_cmp) objects q) (keys q) (some_along _ _ (updates.0 q) some)
 
 -- each entry makes at most one version and one upload
 pub few_versions : (kept : Kept) (log : List Logged) → IsKept kept log → kept.versions ≤ length log
@@ -107,6 +135,7 @@ empty_get objects key none = ap (λ entries. lookup (is_at (slice_cmp nat_cmp ke
 empty_keeps : (objects : BTreeMap (List ℕ) Object) (uploads : Uploads) → objects.entries ≡ [] → uploads ≡ map.empty → IsKept (record { objects = objects; uploads = uploads; versions = 0; created = 0 }) []
 empty_keeps objects uploads none no_uploads = record {
   stands = λ key. get-empty (slice_cmp nat_cmp) key ∙ sym (empty_get objects key none);
+  keys = λ key some. absurd (none_some _ (empty_get objects key none) some);
   staged = sym no_uploads;
   legal = tt;
   numbered = λ place otherwise low. absurd (omega arith);

@@ -1,5 +1,5 @@
 -- What calls of uploads do to what a bucket in memory keeps.
-use Rattle.std.proofs.Common.{◌≡◌, ℕ, ◌+◌, ◌<◌, ◌≤◌, ◌^◌, List, Option, Some, None, length, sym, refl, ap, ◌∙◌, subst, BTreeMap}
+use Rattle.std.proofs.Common.{◌≡◌, ℕ, ◌+◌, ◌<◌, ◌≤◌, ◌^◌, List, Option, Some, None, IsSome, length, sym, refl, ap, ◌∙◌, subst, BTreeMap}
 use Rattle.std.specs.BTreeMap.{is_at}
 use Rattle.std.specs.Cmp.Lexicographic.{slice_cmp}
 use Rattle.std.specs.FinMap as map
@@ -12,14 +12,14 @@ use Rattle.bucket_model.specs.declared.history.Logged.{Logged}
 use Rattle.bucket_model.specs.declared.history.Name.TheVariants as name
 use Rattle.bucket_model.specs.declared.history.Object.{Object}
 use Rattle.bucket_model.specs.Answers.{max_parts}
-use Rattle.bucket_model.specs.Bucket.{BucketState, IsComplete, ObjectVersion, Staged, Whole, completed, object_at, staged_or_not, upload_at, version_completed, whole_of, without_upload}
+use Rattle.bucket_model.specs.Bucket.{BucketState, IsComplete, Staged, Whole, completed, object_at, staged_or_not, upload_at, version_completed, whole_of, without_upload}
 use Rattle.bucket_model.specs.Bucket as bucket
 use Rattle.bucket_model.specs.History.{IsNewUpload, MakesWhole, replay}
 use Rattle.mem_store.specs.Kept.{IsKept, Kept}
 use Rattle.mem_store.specs.Served.{etag_of_version}
 use Rattle.mem_store.specs.Uploads.{Completes, Uploads, with_part}
 use Rattle.mem_store.proofs.Counts.{IsNextVersion, id_is_new}
-use Rattle.mem_store.proofs.Keeps.{Answered, plain_entry}
+use Rattle.mem_store.proofs.Keeps.{Answered, keys_at, plain_entry}
 use Rattle.mem_store.proofs.Puts.{next_one_content, next_stands, next_version}
 use Rattle.std.proofs.lemmas.List.FromFn.{length-range_with_len}
 
@@ -40,6 +40,7 @@ create_answered kept uploads log key before is = record {
   };
   serves = λ new new_is. ((tt, new_is), ap (λ n. n + 1) (sym (length-range_with_len 1 kept.created) ∙ ap length (sym before.ids)));
   stands = before.stands;
+  keys = before.keys;
   staged = ap (λ m. map.insert m (kept.created + 1) (record { key = key; parts = map.empty })) before.staged ∙ sym is;
   version = refl;
   upload = (refl, refl);
@@ -72,6 +73,7 @@ part_at kept uploads log upload number bytes None low high before at is = record
   entry = plain_entry log (Part upload number bytes) NoUpload (low, high) (ap (staged_or_not Stored) (sym at)) refl refl refl;
   serves = λ new new_is. (ap (staged_or_not Stored) (sym at), new_is);
   stands = λ q. objects_stay (replay log) upload number bytes (upload_at (replay log) upload) q ∙ before.stands q;
+  keys = before.keys;
   staged = part_uploads kept uploads log upload number bytes None before at is;
   version = refl;
   upload = refl;
@@ -80,6 +82,7 @@ part_at kept uploads log upload number bytes (Some staged) low high before at is
   entry = plain_entry log (Part upload number bytes) Stored (low, high) (ap (staged_or_not Stored) (sym at)) refl refl refl;
   serves = λ new new_is. (ap (staged_or_not Stored) (sym at), new_is);
   stands = λ q. objects_stay (replay log) upload number bytes (upload_at (replay log) upload) q ∙ before.stands q;
+  keys = before.keys;
   staged = part_uploads kept uploads log upload number bytes (Some staged) before at is;
   version = refl;
   upload = refl;
@@ -99,6 +102,7 @@ abort_at kept log upload None before at = record {
   entry = plain_entry log (Abort upload) NoUpload tt (ap (staged_or_not Gone) (sym at)) refl refl refl;
   serves = λ new new_is. (ap (staged_or_not Gone) (sym at), new_is);
   stands = before.stands;
+  keys = before.keys;
   staged = ap (λ m. map.remove m upload) before.staged;
   version = refl;
   upload = refl;
@@ -107,6 +111,7 @@ abort_at kept log upload (Some staged) before at = record {
   entry = plain_entry log (Abort upload) Gone tt (ap (staged_or_not Gone) (sym at)) refl refl refl;
   serves = λ new new_is. (ap (staged_or_not Gone) (sym at), new_is);
   stands = before.stands;
+  keys = before.keys;
   staged = ap (λ m. map.remove m upload) before.staged;
   version = refl;
   upload = refl;
@@ -146,6 +151,7 @@ complete_made_at kept changed left log upload parts etag (Some whole) low before
       stands = λ q.
           ap (λ o. object_at (completed (replay log) upload o) q) made_is
           ∙ next_stands kept (without_upload (replay log) upload) changed log whole.key whole.bytes before (λ q. refl) done.1 q;
+      keys = keys_at kept.objects changed whole.key _ before.keys done.3 done.1;
       staged = ap (λ o. (completed (replay log) upload o).uploads) made_is ∙ ap (λ m. map.remove m upload) before.staged ∙ sym done.2;
       version = subst (IsNextVersion kept.versions (kept.versions + 1)) (sym made_is) (refl, refl);
       upload = refl;
@@ -168,6 +174,7 @@ complete_none_at kept changed left log upload parts None low before is done =
       entry = plain_entry log (Complete upload parts) NoUpload low answered refl makes none;
       serves = λ new new_is. (answered, new_is);
       stands = λ q. ap (λ o. object_at (completed (replay log) upload o) q) none ∙ before.stands q ∙ ap (λ es. lookup (is_at (slice_cmp nat_cmp q)) es) (sym done.1);
+      keys = λ q some. before.keys q (let P : List (List ℕ × Object) → Type 0 = λ es. IsSome (lookup (is_at (slice_cmp nat_cmp q)) es) in subst P done.1 some);
       staged = ap (λ o. (completed (replay log) upload o).uploads) none ∙ before.staged ∙ sym done.2;
       version = subst (IsNextVersion kept.versions kept.versions) (sym none) refl;
       upload = refl;

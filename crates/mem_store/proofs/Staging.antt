@@ -9,6 +9,7 @@ use Rattle.std.specs.Ordering.{nat_cmp}
 use Rattle.std.specs.Prelude.{◌==◌}
 use Rattle.bucket_model.specs.declared.history.Object.{Object}
 use Rattle.bucket_model.specs.Bucket.{Parts, Staged, Whole, joined_from, whole_of}
+use Rattle.mem_store.specs.Listed.{IsKeyText}
 use Rattle.mem_store.specs.Served.{etag_of_version}
 use Rattle.mem_store.specs.Uploads.{Completes, Uploads, whole_bytes, with_part}
 use Rattle.mem_store.proofs.Numbered.{map_of, found-map_of, insert-map_of}
@@ -61,9 +62,9 @@ module _ (objects changed : BTreeMap (List ℕ) Object) (uploads left : Uploads)
       (none_told, same, same_left)
 
   pub completes_whole : (staged : Staged) (bytes etag : List ℕ) → map.get uploads upload ≡ Some staged → Some bytes ≡ whole_bytes count staged.parts → etag ≡ etag_of_version number
-      → Updates (slice_cmp nat_cmp) objects changed staged.key (Some (record { etag = etag_of_version number; bytes = bytes })) → left ≡ map.remove uploads upload
+      → Updates (slice_cmp nat_cmp) objects changed staged.key (Some (record { etag = etag_of_version number; bytes = bytes })) → left ≡ map.remove uploads upload → IsKeyText staged.key
       → Completes upload number (whole_of count (map.get uploads upload)) objects changed uploads left (Some etag)
-  completes_whole staged bytes etag at whole etag_is updates removed =
+  completes_whole staged bytes etag at whole etag_is updates removed fits =
       completes_at _ (Some (record { key = staged.key; bytes = bytes })) (Some etag)
       (ap (whole_of count) at ∙ whole_by_bytes count staged ∙ ap (option_map (λ bs. record { key = staged.key; bytes = bs })) (sym whole))
-      (ap Some etag_is, updates, removed)
+      (ap Some etag_is, updates, removed, fits)

@@ -12,6 +12,7 @@ use Rattle.std.proofs.lemmas.List.Folds.{find-append}
 use Rattle.std.proofs.lemmas.Slice.Eq.{bytes_eq-Decides}
 use Rattle.bucket_model.specs.declared.answer.Brief.{Brief}
 use Rattle.bucket_model.specs.declared.call.Call.{Call}
+use Rattle.bucket_model.specs.declared.call.Call.TheVariants as call
 use Rattle.bucket_model.specs.declared.call.Call.TheVariants.{Head, Probe, Get, Delete, Put, Create, Part, Complete, Abort}
 use Rattle.bucket_model.specs.declared.history.Logged.{Logged}
 use Rattle.bucket_model.specs.declared.history.Name.{Name}
@@ -118,6 +119,7 @@ after_taken : (state : BucketState) (versions : List ObjectVersion) (call : Call
     (versions ++ option_to_list (version_made state (record { entry = record { call = call; answer = answer; took = took }; made = made })))
 after_taken state versions (Head key) answer took made are one = no_new state versions are
 after_taken state versions (Probe key) answer took made are one = no_new state versions are
+after_taken state versions (call.List prefix after max) answer took made are one = no_new state versions are
 after_taken state versions (Get key etag from to) answer took made are one = no_new state versions are
 after_taken state versions (Delete key) answer took made are one = λ q object is.
     let stood = left (eq_by_cmp (slice_cmp nat_cmp) q key) (object_at state q) object (sym (get-remove nat_list_cmp_total state.objects key q) ∙ is) in

@@ -9,6 +9,7 @@ use Rattle.bucket_model.specs.declared.history.Logged.{Logged}
 use Rattle.bucket_model.specs.declared.history.Object.{Object}
 use Rattle.bucket_model.specs.Bucket.{ObjectVersion, object_at}
 use Rattle.bucket_model.specs.History.{IsLegalHistory, replay, versions_of}
+use Rattle.mem_store.specs.Listed.{HaveKeyTexts}
 use Rattle.mem_store.specs.Served.{etag_of_version, uploads_made}
 use Rattle.mem_store.specs.Uploads.{Uploads}
 
@@ -23,9 +24,10 @@ pub record Kept : Type 0 where
 abbrev pub AreNumbered : List ObjectVersion → Type 0
 AreNumbered versions = (place : ℕ) (otherwise : ObjectVersion) → place < length versions → (slice_index_or versions place otherwise).etag ≡ etag_of_version (place + 1)
 
--- objects and uploads are those that the log leaves, and what was made is numbered and counted
+-- objects and uploads are those that the log leaves, their keys are as long as keys may be, and what was made is numbered and counted
 pub record IsKept (kept : Kept) (log : List Logged) : Type 0 where
   pub stands : (key : List ℕ) → object_at (replay log) key ≡ tree.get (slice_cmp nat_cmp) kept.objects key
+  pub keys : HaveKeyTexts kept.objects
   pub staged : (replay log).uploads ≡ kept.uploads
   pub legal : IsLegalHistory log
   pub numbered : AreNumbered (versions_of log)

@@ -7,6 +7,7 @@ use Rattle.std.specs.FinMap as map
 use Rattle.std.specs.Ordering.{nat_cmp}
 use Rattle.bucket_model.specs.declared.history.Object.{Object}
 use Rattle.bucket_model.specs.Bucket.{Parts, Staged, Whole, joined_from}
+use Rattle.mem_store.specs.Listed.{IsKeyText}
 use Rattle.mem_store.specs.Served.{etag_of_version}
 
 abbrev pub Uploads : Type 0
@@ -38,3 +39,4 @@ Completes upload number (Some whole) objects changed uploads left made =
     (made ≡ Some (etag_of_version number))
     × Updates (slice_cmp nat_cmp) objects changed whole.key (Some (record { etag = etag_of_version number; bytes = whole.bytes }))
     × (left ≡ map.remove uploads upload)
+    × IsKeyText whole.key

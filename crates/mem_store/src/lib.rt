@@ -2,6 +2,7 @@
 //! It serves tests and the program alike: no clock, no file and no network stands here.
 #![tactic(auto)]
 
+mod listing;
 mod log;
 mod objects;
 mod parts;

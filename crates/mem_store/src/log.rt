@@ -1,5 +1,5 @@
-ghost use Rattle.std.specs.Prelude.{◌≡◌, ◌<◌, ◌∷◌, [], ◌++◌, vec_len, vec_capacity};
-ghost use Rattle.bucket_model.specs.Answers.{brief_of};
+ghost use Rattle.std.specs.Prelude.{◌≡◌, ◌<◌, ◌∷◌, [], ◌++◌, false, vec_len, vec_capacity};
+ghost use Rattle.bucket_model.specs.Answers.{brief_of, brings_page};
 ghost use Rattle.mem_store.specs.Served.{entry_of, made_by};
 
 use bucket_model::{Answer, Brief, Call, HEntry, Logged, Name};
@@ -14,12 +14,22 @@ fn name_made(answer: &Brief) -> Option<Name>
     }
 }
 
-// Adds the entry of an answered call, for which the log has room.
-pub fn add_entry(log: &mut Vec<Logged>, call: Call, answer: &Answer)
-    requires { vec_len log.old < vec_capacity log.old }
-    ensures { log.new.items ≡ log.old.items ++ entry_of call (brief_of answer.now) ∷ [] }
+/// The answer in brief, where it brings no page. Takes no memory.
+pub fn plain_brief(answer: &Answer) -> Brief
+    requires { brings_page answer.now ≡ false }
+    ensures { result ≡ brief_of answer.now }
 {
-    let answer = answer.brief();
+    match answer.brief() {
+        Ok(brief) => brief,
+        Err(_) => unreachable!(),
+    }
+}
+
+/// Adds the entry of an answered call, for which the log has room.
+pub fn add_entry(log: &mut Vec<Logged>, call: Call, answer: Brief)
+    requires { vec_len log.old < vec_capacity log.old }
+    ensures { log.new.items ≡ log.old.items ++ entry_of call answer ∷ [] }
+{
     let made = name_made(&answer);
     let entry = HEntry {
         call,

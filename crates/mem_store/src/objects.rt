@@ -1,10 +1,11 @@
-ghost use Rattle.std.specs.Prelude.{◌≡◌, ◌<◌, [], ◌∷◌, ◌++◌, None, IfOk, OnOk, OnErr};
+ghost use Rattle.std.specs.Prelude.{◌≡◌, ◌<◌, [], ◌∷◌, ◌++◌, None, false, IfOk, OnOk, OnErr};
 ghost use Rattle.std.specs.BTreeMap as tree;
 ghost use Rattle.std.specs.BTreeMap.{IsUnchanged, Updates};
 ghost use Rattle.std.specs.Cmp.Lexicographic.{slice_cmp};
 ghost use Rattle.std.specs.Ordering.{nat_cmp};
-ghost use Rattle.bucket_model.specs.Answers.{brief_of};
+ghost use Rattle.bucket_model.specs.Answers.{brief_of, brings_page};
 ghost use Rattle.bucket_model.specs.Bucket.{head_of};
+ghost use Rattle.mem_store.specs.Listed.{IsKeyText};
 ghost use Rattle.mem_store.specs.Served.{answer_of_get, etag_of_version, Finds, probe_of};
 
 use bucket_model::{Answer, Object};
@@ -14,9 +15,10 @@ use std::alloc::{AllocError, Global};
 use std::collections::BTreeMap;
 use std::ops::Bound;
 
-// What HeadObject answers.
+/// What HeadObject answers.
 pub fn head_answer(objects: &BTreeMap<Text, Object>, key: &Key) -> Answer
-    ensures { brief_of result ≡ head_of (tree.get (slice_cmp nat_cmp) objects.now key.now) }
+    ensures plain { brings_page result ≡ false }
+    ensures answer { brief_of result ≡ head_of (tree.get (slice_cmp nat_cmp) objects.now key.now) }
 {
     match objects.get(key.as_text()) {
         Some(object) => Answer::Found {
@@ -52,7 +54,7 @@ fn begins_some_key(objects: &BTreeMap<Text, Object>, start: &Text) -> bool
     }
 }
 
-// Whether some key stands below this one.
+/// Whether some key stands below this one.
 pub fn finds_below(
     objects: &BTreeMap<Text, Object>,
     alloc: Global,
@@ -64,15 +66,16 @@ pub fn finds_below(
     Ok(begins_some_key(objects, &start))
 }
 
-// What ListObjectsV2 of one item answers.
+/// What ListObjectsV2 of one item answers.
 pub fn probe_answer(found: bool) -> Answer
-    ensures { brief_of result ≡ probe_of found }
+    ensures plain { brings_page result ≡ false }
+    ensures answer { brief_of result ≡ probe_of found }
 {
     if found { Answer::Yes } else { Answer::No }
 }
 
-// What GetObject with a range and If-Match answers. Bytes are shared with the object and not copied, so memory
-// is wanting only where no more may share them.
+/// What GetObject with a range and If-Match answers. Bytes are shared with the object and not copied, so memory
+/// is wanting only where no more may share them.
 pub fn get_answer(
     objects: &BTreeMap<Text, Object>,
     key: &Key,
@@ -81,7 +84,8 @@ pub fn get_answer(
     to: u64,
 ) -> Result<Answer, AllocError>
     requires { from < to }
-    ensures { IfOk result (λ answer. answer ≡ answer_of_get etag.now from to (tree.get (slice_cmp nat_cmp) objects.now key.now)) }
+    ensures plain { IfOk result (λ answer. brings_page answer ≡ false) }
+    ensures answer { IfOk result (λ answer. answer ≡ answer_of_get etag.now from to (tree.get (slice_cmp nat_cmp) objects.now key.now)) }
 {
     match objects.get(key.as_text()) {
         Some(object) if object.etag == *etag && to <= object.bytes.len() as u64 => {
@@ -103,7 +107,7 @@ fn version_etag(alloc: Global, number: u64) -> Result<ETag, AllocError>
     }
 }
 
-// Puts the version with this number at the key, and answers its ETag. Want of memory changes nothing.
+/// Puts the version with this number at the key, and answers its ETag. Want of memory changes nothing.
 pub fn put_version(
     objects: &mut BTreeMap<Text, Object>,
     alloc: Global,
@@ -113,6 +117,7 @@ pub fn put_version(
 ) -> Result<ETag, AllocError>
     ensures etag { IfOk result (λ etag. etag ≡ etag_of_version number) }
     ensures ok { OnOk result (Updates (slice_cmp nat_cmp) objects.old objects.new key.now (Some (record { etag = etag_of_version number; bytes = bytes.now }))) }
+    ensures fits { OnOk result (IsKeyText key.now) }
     ensures err { OnErr result (IsUnchanged objects.old objects.new) }
 {
     let etag = version_etag(alloc, number)?;
@@ -125,7 +130,7 @@ pub fn put_version(
     Ok(etag)
 }
 
-// Takes the object at the key away, if one stands there.
+/// Takes the object at the key away, if one stands there.
 pub fn remove_object(objects: &mut BTreeMap<Text, Object>, key: &Key)
     ensures { Updates (slice_cmp nat_cmp) objects.old objects.new key.now None }
 {

@@ -1,17 +1,18 @@
 ghost use Rattle.std.specs.Prelude.{◌≡◌, ◌<◌, ◌≤◌, [], length, Some, IsOk, IfOk};
-ghost use Rattle.bucket_model.specs.declared.call.Call.TheVariants.{Head, Probe, Get, Delete, Put, Create, Part, Complete, Abort};
-ghost use Rattle.bucket_model.specs.Answers.{brief_of, max_parts};
+ghost use Rattle.bucket_model.specs.declared.call.Call.TheVariants.{Head, Probe, List, Get, Delete, Put, Create, Part, Complete, Abort};
+ghost use Rattle.bucket_model.specs.Answers.{brief_of, max_items, max_parts};
 ghost use Rattle.bucket_model.specs.Bucket.{IsSlice};
 ghost use Rattle.bucket_model.specs.History.{IsLegalHistory, versions_of};
 ghost use Rattle.mem_store.specs.Served.{IsServed, history_of};
 ghost use Rattle.mem_store.specs.Laws.{honest_is_legal, position_is};
 
-use crate::log::add_entry;
+use crate::listing::list_page;
+use crate::log::{add_entry, plain_brief};
 use crate::objects::{
     finds_below, get_answer, head_answer, probe_answer, put_version, remove_object,
 };
 use crate::uploads::Uploads;
-use bucket_model::{Answer, Call, Logged, Object};
+use bucket_model::{Answer, Brief, Call, Logged, Object};
 use bytes::Bytes;
 use mp_types::{ETag, Key, Text};
 use std::alloc::{AllocError, Global};
@@ -70,7 +71,7 @@ impl MemStore {
             Err(_) => return (place, Answer::NoMemory),
         }
         let answer = head_answer(&self.objects, &key);
-        add_entry(&mut self.log, Call::Head { key }, &answer);
+        add_entry(&mut self.log, Call::Head { key }, plain_brief(&answer));
         (place, answer)
     }
 
@@ -87,8 +88,31 @@ impl MemStore {
             Err(_) => return (place, Answer::NoMemory),
         };
         let answer = probe_answer(found);
-        add_entry(&mut self.log, Call::Probe { key }, &answer);
+        add_entry(&mut self.log, Call::Probe { key }, plain_brief(&answer));
         (place, answer)
+    }
+
+    fn list(&mut self, prefix: Text, after: Text, max: u32) -> (u64, Answer)
+        requires low { 1 ≤ max }
+        requires high { max ≤ max_items }
+        ensures { IsServed (List prefix after max) self.old self.new result.0 (brief_of result.1) }
+    {
+        let place = self.log.len() as u64;
+        match self.log.reserve(1) {
+            Ok(()) => {}
+            Err(_) => return (place, Answer::NoMemory),
+        }
+        let page = match list_page(&self.objects, self.alloc, &prefix, &after, max) {
+            Ok(page) => page,
+            Err(_) => return (place, Answer::NoMemory),
+        };
+        let shared = match page.share() {
+            Ok(shared) => shared,
+            Err(_) => return (place, Answer::NoMemory),
+        };
+        let call = Call::List { prefix, after, max };
+        add_entry(&mut self.log, call, Brief::Page(shared));
+        (place, Answer::Page(page))
     }
 
     fn get(&mut self, key: Key, etag: ETag, from: u64, to: u64) -> (u64, Answer)
@@ -111,7 +135,7 @@ impl MemStore {
             from,
             to,
         };
-        add_entry(&mut self.log, call, &answer);
+        add_entry(&mut self.log, call, plain_brief(&answer));
         (place, answer)
     }
 
@@ -125,7 +149,7 @@ impl MemStore {
         }
         remove_object(&mut self.objects, &key);
         let answer = Answer::Gone;
-        add_entry(&mut self.log, Call::Delete { key }, &answer);
+        add_entry(&mut self.log, Call::Delete { key }, plain_brief(&answer));
         (place, answer)
     }
 
@@ -143,7 +167,11 @@ impl MemStore {
             Err(_) => return (place, Answer::NoMemory),
         };
         self.versions = number;
-        add_entry(&mut self.log, Call::Put { key, bytes }, &answer);
+        add_entry(
+            &mut self.log,
+            Call::Put { key, bytes },
+            plain_brief(&answer),
+        );
         (place, answer)
     }
 
@@ -162,7 +190,7 @@ impl MemStore {
         }
         self.created = upload;
         let answer = Answer::Upload(upload);
-        add_entry(&mut self.log, Call::Create { key }, &answer);
+        add_entry(&mut self.log, Call::Create { key }, plain_brief(&answer));
         (place, answer)
     }
 
@@ -185,7 +213,7 @@ impl MemStore {
             number,
             bytes,
         };
-        add_entry(&mut self.log, call, &answer);
+        add_entry(&mut self.log, call, plain_brief(&answer));
         (place, answer)
     }
 
@@ -206,14 +234,12 @@ impl MemStore {
         {
             Ok(Some(etag)) => {
                 self.versions = number;
-                let answer = Answer::Made(etag);
-                add_entry(&mut self.log, call, &answer);
-                (place, answer)
+                add_entry(&mut self.log, call, Brief::Made(etag.copy()));
+                (place, Answer::Made(etag))
             }
             Ok(None) => {
-                let answer = Answer::NoUpload;
-                add_entry(&mut self.log, call, &answer);
-                (place, answer)
+                add_entry(&mut self.log, call, Brief::NoUpload);
+                (place, Answer::NoUpload)
             }
             Err(_) => (place, Answer::NoMemory),
         }
@@ -228,7 +254,7 @@ impl MemStore {
             Err(_) => return (place, Answer::NoMemory),
         }
         let answer = self.uploads.abort(upload);
-        add_entry(&mut self.log, Call::Abort { upload }, &answer);
+        add_entry(&mut self.log, Call::Abort { upload }, plain_brief(&answer));
         (place, answer)
     }
 }
@@ -250,6 +276,7 @@ impl Store for MemStore {
         match call {
             Call::Head { key } => self.head(key),
             Call::Probe { key } => self.probe(key),
+            Call::List { prefix, after, max } => self.list(prefix, after, max),
             Call::Get {
                 key,
                 etag,

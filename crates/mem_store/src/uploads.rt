@@ -1,8 +1,8 @@
-ghost use Rattle.std.specs.Prelude.{◌≡◌, IfOk, OnOk, OnErr};
+ghost use Rattle.std.specs.Prelude.{◌≡◌, false, IfOk, OnOk, OnErr};
 ghost use Rattle.std.specs.BTreeMap.{IsUnchanged};
 ghost use Rattle.std.specs.FinMap as map;
 ghost use Rattle.bucket_model.specs.declared.answer.Brief.TheVariants as brief;
-ghost use Rattle.bucket_model.specs.Answers.{brief_of};
+ghost use Rattle.bucket_model.specs.Answers.{brief_of, brings_page};
 ghost use Rattle.bucket_model.specs.Bucket.{staged_or_not, whole_of};
 ghost use Rattle.mem_store.specs.Uploads.{Completes, with_part};
 
@@ -91,6 +91,7 @@ impl Uploads {
         number: u32,
         bytes: &Bytes,
     ) -> Result<Answer, AllocError>
+        ensures plain { IfOk result (λ answer. brings_page answer ≡ false) }
         ensures answer { IfOk result (λ answer. brief_of answer ≡ staged_or_not brief.Stored (map.get self.old upload)) }
         ensures ok { OnOk result (self.new ≡ with_part self.old upload number bytes.now (map.get self.old upload)) }
         ensures err { OnErr result (self.new ≡ self.old) }
@@ -129,6 +130,7 @@ impl Uploads {
 
     /// Gives the upload up, and answers AbortMultipartUpload. Takes no memory.
     pub fn abort(&mut self, upload: u64) -> Answer
+        ensures plain { brings_page result ≡ false }
         ensures answer { brief_of result ≡ staged_or_not brief.Gone (map.get self.old upload) }
         ensures gone { self.new ≡ map.remove self.old upload }
     {

@@ -37,6 +37,7 @@ awaits-give bytes (s ∷ lines) = by_phase s.phase refl (awaits-give bytes lines
     by_request before e request.Await is below = rw (e, is) (tt, below)
     by_request before e (request.Put key content) is below = rw (e, is) tt
     by_request before e (request.Stat path) is below = rw (e, is) tt
+    by_request before e (request.List path) is below = rw (e, is) tt
     by_request before e (request.OpenRead name path) is below = rw (e, is) tt
     by_request before e (request.OpenWrite name path) is below = rw (e, is) tt
     by_request before e (request.OpenTruncate name path) is below = rw (e, is) tt

@@ -1,16 +1,20 @@
 -- Each event of a core, from the parts before it to the parts behind it.
-use Rattle.std.proofs.Common.{◌≡◌, ◌≢◌, ℕ, ◌+◌, ◌<◌, true, List, [], ◌∷◌, ◌++◌, map, length, max, Option, Some, None, refl, sym, ap, ◌∙◌, subst, ◌⊎◌, inr, arith, append-nil, ◌↔◌}
+use Rattle.std.proofs.Common.{◌≡◌, ◌≢◌, ℕ, ◌+◌, ◌<◌, true, false, List, [], ◌∷◌, ◌++◌, map, length, max, Option, Some, None, refl, sym, ap, ◌∙◌, subst, ◌⊎◌, inr, arith, append-nil, ◌↔◌, Result, Ok, Err}
+use Rattle.std.specs.Prelude.{IfOk, IsOk}
+use Rattle.std.specs.declared.alloc.AllocError.{AllocError}
 use Rattle.std.specs.List.{AllByRecursion}
 use Rattle.std.specs.FinMap as finmap
 use Rattle.mp_rules.specs.declared.facts.Question.{Question}
 use Rattle.mp_types.specs.declared.options.Opts.{Opts}
 use Rattle.mp_types.specs.Options.{AreWithin}
 use Rattle.bucket_model.specs.declared.call.Call.{Call}
+use Rattle.bucket_model.specs.declared.call.Call.TheVariants as call
+use Rattle.bucket_model.specs.declared.page.Page.{Page}
 use Rattle.bucket_model.specs.declared.answer.Answer.{Answer}
 use Rattle.bucket_model.specs.declared.answer.Answer.TheVariants as full
 use Rattle.bucket_model.specs.declared.answer.Brief.{Brief}
-use Rattle.bucket_model.specs.declared.answer.Brief.TheVariants.{Bytes}
-use Rattle.bucket_model.specs.Answers.{MayBeMade, brief_of, bytes_in}
+use Rattle.bucket_model.specs.declared.answer.Brief.TheVariants.{Bytes, Page as Listed}
+use Rattle.bucket_model.specs.Answers.{MayBeMade, brief_of, brings_page, bytes_in, fits}
 use Rattle.mount_model.specs.declared.request.Line.{Line}
 use Rattle.mount_model.specs.declared.event.Event.{Event}
 use Rattle.mount_model.specs.declared.event.Event.TheVariants.{Begin, Take, Done}
@@ -19,6 +23,7 @@ use Rattle.mount_model.specs.declared.event.Owner.TheVariants as owner
 use Rattle.mount_model.specs.declared.standing.Phase.TheVariants.{Waiting, Begun, Replied}
 use Rattle.mount_model.specs.declared.standing.Standing.{Standing}
 use Rattle.mount_model.specs.declared.standing.Told.{Told}
+use Rattle.mount_model.specs.declared.standing.Told.TheVariants.{Answer as Hears}
 use Rattle.mount_model.specs.Heard.{nothing_heard, with_told, question_of, told_by}
 use Rattle.mount_model.specs.Step.{Step, step_of, HasStep}
 use Rattle.mount_model.specs.State.{Shared, ClientState, Job, Out, Gone, Turn, TurnOf, opening, shared_at_first, view_of, after, state_after, line_at, change_line, heard, lines_at, jobs_at, job_at, change_job, time_after, next_in, turn_of_line, turn_of_writer, turn_at}
@@ -27,8 +32,10 @@ use Rattle.mount_model.specs.Run.{IsLegalStep, IsRunSoFar, AreRising, MayDone, d
 use Rattle.line_table.specs.Table.{HasBegun}
 use Rattle.job_table.specs.LiveJobs as table
 use Rattle.job_table.specs.declared.purpose.Purpose.{Purpose}
+use Rattle.job_table.specs.declared.purpose.Purpose.TheVariants.{Other}
 use Rattle.job_table.proofs.AllJobs.{held_of-gone, held_of-out, held_at-out, held_at-ready, is_out_in, is_ready_in, ready_job, held_of-empty}
 use Rattle.run_laws.specs.Alive as laws
+use Rattle.run_laws.specs.Listings.{HasListing}
 use Rattle.run_laws.specs.Served.{IsOfLine}
 use Rattle.run_laws.specs.Work.{work_left}
 use Rattle.run_laws.specs.Faithful.{IsRead}
@@ -39,11 +46,13 @@ use Rattle.run_laws.proofs.Orderly.{startable-found}
 use Rattle.run_laws.proofs.Conversation.{gives-read}
 use Rattle.run_laws.proofs.Faithful.{faithful, job_makes_call}
 use Rattle.run_laws.proofs.Made.{calls_made}
+use Rattle.run_laws.proofs.Listed.{answered_listing}
 use Rattle.run_laws.proofs.Jobs.{length-change_job, numbered-change}
 use Rattle.run_laws.proofs.Opened.{IsOpened, begins-line, begin-opens, done-opens}
 use Rattle.name_laws.specs.Files.{HasFiles}
 use Rattle.name_laws.proofs.Steps.{run-files}
 use Rattle.mount_core.specs.declared.work.Work.{Work}
+use Rattle.mount_core.specs.Listing.{IsListing}
 use Rattle.mount_core.specs.Shared.{shared_in}
 use Rattle.mount_core.specs.Turn.{next_behind, lines_behind, turn_behind, with_part, AreAll, NamedMayTurn, Answers, Takes, Speaks}
 use Rattle.mount_core.specs.Writing.{MayHear}
@@ -279,6 +288,7 @@ brought_long (full.Found etag size) count is = absurd (cc)
 brought_long full.Missing count is = absurd (cc)
 brought_long full.Yes count is = absurd (cc)
 brought_long full.No count is = absurd (cc)
+brought_long (full.Page page) count is = absurd (cc)
 brought_long full.Changed count is = absurd (cc)
 brought_long full.Gone count is = absurd (cc)
 brought_long (full.Made etag) count is = absurd (cc)
@@ -368,6 +378,84 @@ line_leaves old ended turned new n position answer who line purpose question tol
     ∙ ap (λ (t : Shared). turn_of_line t (line_at line (lines_behind line (Some told) ended))) (sym (parts.shared ∙ core.shared)) in
     done_leaves old ended turned new n position (brief_of answer) (turn_behind line (Some told) ended) (lines_behind line (Some told) ended) (bytes_in answer) core may parts (here.turn ∙ turn) (here.lines ∙ lines)
     (subst (λ (b : List ℕ). Takes (turn_behind line (Some told) ended) (lines_behind line (Some told) ended) b ended turned) brings takes) answers kept
+
+-- An answer that can't be told brings a page.
+pub brought_page : (answer : Answer) (told : Result Brief AllocError) → (brings_page answer ≡ false → IsOk told) → ((heard : Brief) → told ≡ Ok heard → ⊥) → (page : Page) × (brief_of answer ≡ Listed page)
+brought_page answer told tells untold = by_answer answer tells
+  where
+    never : (told : Result Brief AllocError) → IsOk told → ((heard : Brief) → told ≡ Ok heard → ⊥) → ⊥
+    never (Ok heard) told_so untold = untold heard refl
+    never (Err why) told_so untold = absurd (cc)
+
+    by_answer : (answer : Answer) → (brings_page answer ≡ false → IsOk told) → (page : Page) × (brief_of answer ≡ Listed page)
+    by_answer (full.Page page) tells = (page, refl)
+    by_answer (full.Found etag size) tells = absurd (never told (tells refl) untold)
+    by_answer full.Missing tells = absurd (never told (tells refl) untold)
+    by_answer full.Yes tells = absurd (never told (tells refl) untold)
+    by_answer full.No tells = absurd (never told (tells refl) untold)
+    by_answer (full.Bytes bytes) tells = absurd (never told (tells refl) untold)
+    by_answer full.Changed tells = absurd (never told (tells refl) untold)
+    by_answer full.Gone tells = absurd (never told (tells refl) untold)
+    by_answer (full.Made etag) tells = absurd (never told (tells refl) untold)
+    by_answer (full.Upload upload) tells = absurd (never told (tells refl) untold)
+    by_answer full.Stored tells = absurd (never told (tells refl) untold)
+    by_answer full.NoUpload tells = absurd (never told (tells refl) untold)
+    by_answer full.Fault tells = absurd (never told (tells refl) untold)
+    by_answer full.NoMemory tells = absurd (never told (tells refl) untold)
+
+-- the job that it answers lists
+page_lists : (old : Work) (n position : ℕ) (answer : Brief) (page : Page) → IsCore old (core_of old) → (may : MayDone (state_of (core_of old)) n position answer) → answer ≡ Listed page → HasListing (state_of (core_of old)) may.job
+page_lists old n position answer page core may brings =
+    let live : may.job.phase ≢ Gone = λ gone. absurd (let e : Out may.from ≡ Gone = sym may.is_out ∙ gone in cc) in
+    answered_listing (core_of old).options (core_of old).script (core_of old).steps n may.job page core.within core.rising core.so_far may.stands live (ap (fits may.job.call) (sym brings) ∙ may.kind)
+
+-- so no writer hears it
+pub unwritten_page : (old : Work) (n position opened : ℕ) (answer : Brief) (page : Page) (who : Owner) (line : ℕ) (purpose : Purpose) → IsCore old (core_of old) → IsOfJob old n position answer who line purpose → who ≡ owner.Writer opened → answer ≡ Listed page → ⊥
+unwritten_page old n position opened answer page who line purpose core is own brings = subst IsOfLine (sym is.owner_is ∙ own) (page_lists old n position answer page core is.may brings).of_line
+
+-- and its line has begun to list
+pub page_line : (old ended : Work) (n position : ℕ) (answer : Brief) (page : Page) (who : Owner) (line : ℕ) (purpose : Purpose) → IsCore old (core_of old) → IsOfJob old n position answer who line purpose → HasEnded n position answer old ended → answer ≡ Listed page → IsListing line ended.lines
+page_line old ended n position answer page who line purpose core is parts brings =
+    let lists = page_lists old n position answer page core is.may brings in
+    record {
+      standing = lists.standing;
+      stands = ap (line_at line) (parts.lines ∙ core.lines) ∙ (ap (λ k. line_at k (state_of (core_of old)).lines) is.line_is ∙ lists.stands);
+      heard = lists.heard;
+      phase = lists.begun;
+      path = lists.listing.path;
+      lists = lists.listing.lists;
+      names = lists.listing.names;
+      fine = lists.listing.fine;
+    }
+
+other_asks : (called : Call) → table.purpose_of called ≡ Other → None ≡ question_of called
+other_asks (call.Head key) is = absurd (cc)
+other_asks (call.Probe key) is = absurd (cc)
+other_asks (call.List prefix after max) is = refl
+other_asks (call.Get key etag from to) is = refl
+other_asks (call.Delete key) is = refl
+other_asks (call.Put key bytes) is = refl
+other_asks (call.Create key) is = refl
+other_asks (call.Part upload number bytes) is = refl
+other_asks (call.Complete upload parts) is = refl
+other_asks (call.Abort upload) is = refl
+
+-- whose listing fails then
+pub failed_leaves : (old ended turned new : Work) (n position : ℕ) (answer : Answer) (page : Page) (who : Owner) (line : ℕ) (purpose : Purpose) → IsCore old (core_of old) → IsOfJob old n position (brief_of answer) who line purpose → IsOfLine who → HasEnded n position (brief_of answer) old ended → brief_of answer ≡ Listed page →
+    Takes (turn_behind line (Some (Hears (Listed page))) ended) (lines_behind line (Some (Hears (Listed page))) ended) (bytes_in answer) ended turned →
+    Answers (due_awaits turned.lines) turned new →
+    shared_in new ≡ shared_in turned →
+    Leaves (Done n position (brief_of answer)) (bytes_in answer) old new
+failed_leaves old ended turned new n position answer page who line purpose core is own parts brings takes answers kept =
+    let lists = page_lists old n position (brief_of answer) page core is.may brings in
+    let other : purpose ≡ Other = is.purpose_is ∙ ap table.purpose_of lists.asks in
+    line_leaves old ended turned new n position answer who line purpose None (Hears (Listed page)) (bytes_in answer) core is own parts
+    (λ called for. other_asks called (for ∙ other))
+    (ap (told_by None) (sym brings)) refl takes answers kept
+
+-- and what is told is the answer in brief
+pub told_so : (told : Result Brief AllocError) (said heard : Brief) → IfOk told (λ brief. brief ≡ said) → told ≡ Ok heard → heard ≡ said
+told_so told said heard tells is = subst (λ (t : Result Brief AllocError). IfOk t (λ brief. brief ≡ said)) is tells
 
 -- The answer to a writer's job.
 writer_here : (old ended : Work) (n position opened : ℕ) (answer : Brief) (who : Owner) (line : ℕ) (purpose : Purpose) → IsCore old (core_of old) → (is : IsOfJob old n position answer who line purpose) → who ≡ owner.Writer opened → HasEnded n position answer old ended → HearsWriter (state_of (core_of old)) n position opened answer is.may.job.call ended

@@ -1,5 +1,5 @@
 -- Who has its turn behind an event, and what it may do, by the laws of runs.
-use Rattle.std.proofs.Common.{◌≡◌, ◌≢◌, ℕ, ◌+◌, ◌<◌, ◌≤◌, List, length, Option, Some, None, IsSome, refl, sym, ap, ◌∙◌, subst, arith}
+use Rattle.std.proofs.Common.{◌≡◌, ◌≢◌, ℕ, ◌+◌, ◌<◌, ◌≤◌, List, length, Some, IsSome, refl, sym, ap, ◌∙◌, subst, arith}
 use Rattle.std.specs.FinMap as table
 use Rattle.bucket_model.specs.declared.call.Call.{Call}
 use Rattle.bucket_model.specs.declared.call.Call.TheVariants as call
@@ -22,9 +22,9 @@ use Rattle.mount_model.specs.declared.standing.Standing.{Standing}
 use Rattle.mount_model.specs.declared.standing.Told.{Told}
 use Rattle.mount_model.specs.Heard.{question_of, told_by}
 use Rattle.mount_model.specs.Writers.{is_under_way}
-use Rattle.mount_model.specs.Handles.{Handles, Handle, Writer, name_in, handle_named, handle_of}
+use Rattle.mount_model.specs.Handles.{Writer, handle_of}
 use Rattle.mount_model.specs.State.{ClientState, Job, Shared, Out, Gone, line_at, change_line, heard, hears, lines_at, jobs_at, handle_name, turn_at, turn_of_line, turn_of_job, turn_of_writer}
-use Rattle.mount_model.specs.Conversation.{Next, Asks, Replies, Makes, Removes, Opens, Creates, Gives, Writes, Ends, Waits, View, next_of}
+use Rattle.mount_model.specs.Conversation.{Next, Asks, Replies, Makes, Removes, Opens, Creates, Lists, Gives, Writes, Ends, Waits, View, next_of}
 use Rattle.mount_model.specs.Run.{MayDone}
 use Rattle.job_table.specs.LiveJobs.{held_of, ready_of_writer, purpose_of}
 use Rattle.job_table.specs.declared.purpose.Purpose.TheVariants as purpose
@@ -116,6 +116,7 @@ heard-speaks view r before one = go (next_of view r before) refl
     go (Removes key) is = tt
     go (Opens version) is = tt
     go (Creates key) is = tt
+    go (Lists entries) is = tt
     go (Gives count) is = tt
     go (Writes count w) is = tt
 
@@ -134,6 +135,7 @@ create-counts : (called : Call) → purpose_of called ≡ purpose.Create → is_
 create-counts (call.Create key) is = refl
 create-counts (call.Head key) is = absurd (cc)
 create-counts (call.Probe key) is = absurd (cc)
+create-counts (call.List prefix after max) is = absurd (cc)
 create-counts (call.Get key etag from to) is = absurd (cc)
 create-counts (call.Delete key) is = absurd (cc)
 create-counts (call.Put key bytes) is = absurd (cc)
@@ -145,6 +147,7 @@ part-counts : (called : Call) → purpose_of called ≡ purpose.Part → is_part
 part-counts (call.Part upload number bytes) is = refl
 part-counts (call.Head key) is = absurd (cc)
 part-counts (call.Probe key) is = absurd (cc)
+part-counts (call.List prefix after max) is = absurd (cc)
 part-counts (call.Get key etag from to) is = absurd (cc)
 part-counts (call.Delete key) is = absurd (cc)
 part-counts (call.Put key bytes) is = absurd (cc)
@@ -156,6 +159,7 @@ complete-counts : (called : Call) → purpose_of called ≡ purpose.Complete →
 complete-counts (call.Complete upload parts) is = refl
 complete-counts (call.Head key) is = absurd (cc)
 complete-counts (call.Probe key) is = absurd (cc)
+complete-counts (call.List prefix after max) is = absurd (cc)
 complete-counts (call.Get key etag from to) is = absurd (cc)
 complete-counts (call.Delete key) is = absurd (cc)
 complete-counts (call.Put key bytes) is = absurd (cc)

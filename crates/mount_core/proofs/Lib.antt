@@ -13,3 +13,5 @@ pub mod Events
 pub mod Writers
 pub mod WriterTurns
 pub mod Writes
+pub mod Listings
+pub mod Reading

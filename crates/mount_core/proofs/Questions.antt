@@ -1,7 +1,7 @@
 -- What a line opens, removes and gives, by what it sees of the mount and by what it did before.
-use Rattle.std.proofs.Common.{◌≡◌, ◌≢◌, ℕ, Bool, true, false, List, [], ◌∷◌, ◌++◌, if◌then◌else◌, ◌==◌, Option, Some, None, Result, Ok, Err, refl, ap, subst}
+use Rattle.std.proofs.Common.{◌≡◌, ◌≢◌, ℕ, Bool, true, false, not, List, [], ◌∷◌, ◌++◌, length, nat_lt, if◌then◌else◌, ◌==◌, Option, Some, None, Result, Ok, Err, refl, ap, subst}
 use Rattle.std.proofs.lemmas.Bool.{eqb-false}
-use Rattle.mp_types.specs.declared.errno.Errno.TheVariants.{Eperm, Eexist, Eisdir, Emfile, Enotempty, Einval, Efbig}
+use Rattle.mp_types.specs.declared.errno.Errno.TheVariants.{Eperm, Eexist, Eisdir, Emfile, Enotempty, Einval, Efbig, Eoverflow}
 use Rattle.mp_types.specs.declared.path.PathFault.{PathFault}
 use Rattle.mp_types.specs.Path.{path_of, joined}
 use Rattle.mp_types.specs.Content.{bytes_of}
@@ -13,7 +13,10 @@ use Rattle.mp_rules.specs.declared.facts.Question.TheVariants.{Head, Probe}
 use Rattle.mp_rules.specs.declared.facts.Fact.{Fact}
 use Rattle.mp_rules.specs.Walk.{Decision, Need, Is, Refused, fact_in, walk}
 use Rattle.mp_rules.specs.Local.{local_at, has_name_below}
+use Rattle.listing_rules.specs.Names.{listing_of, prefix_of}
+use Rattle.listing_rules.specs.Pages.{items_of, last_text}
 use Rattle.bucket_model.specs.declared.call.Call.{Call}
+use Rattle.bucket_model.specs.declared.page.Page.{Page}
 use Rattle.bucket_model.specs.declared.answer.Brief.{Brief}
 use Rattle.bucket_model.specs.declared.answer.Brief.TheVariants as answer
 use Rattle.upload_rules.specs.declared.upload.UpState.{UpState}
@@ -22,14 +25,13 @@ use Rattle.mount_model.specs.declared.handle.Handle.TheVariants.{Reading, Writin
 use Rattle.mount_model.specs.declared.handle.Version.{Version}
 use Rattle.mount_model.specs.declared.request.Request.{Request}
 use Rattle.mount_model.specs.declared.request.Request.TheVariants as request
-use Rattle.mount_model.specs.declared.request.Reply.{Reply}
 use Rattle.mount_model.specs.declared.request.Reply.TheVariants as reply
 use Rattle.mount_model.specs.declared.standing.Heard.{Heard}
 use Rattle.mount_model.specs.declared.standing.Told.{Told}
 use Rattle.mount_model.specs.declared.standing.Told.TheVariants.{Fact as AFact, Answer}
 use Rattle.mount_model.specs.Heard.{nothing_heard, with_told, fact_of, told_from, told_by}
 use Rattle.mount_model.specs.Handles.{Handle}
-use Rattle.mount_model.specs.Conversation.{Next, Asks, Replies, Removes, Opens, Creates, Gives, Writes, View, Range, fails, next_of, put_next, delete_next, at_path, along, stat_at, stat_next, opens_if, open_at, create_at, open_next, make_at, make_next, remove_at, remove_next, unlink_at, unlink_next, range_next, range_in, read_next, write_to, write_next, sync_next, close_next}
+use Rattle.mount_model.specs.Conversation.{Next, Asks, Replies, Removes, Opens, Creates, Lists, Gives, Writes, View, Range, fails, next_of, put_next, delete_next, at_path, along, stat_at, stat_next, opens_if, open_at, create_at, open_next, make_at, make_next, remove_at, remove_next, unlink_at, unlink_next, max_pages, pages_in, last_of, asks_page, behind_page, behind_answer, list_at, list_next, range_next, range_in, read_next, write_to, write_next, sync_next, close_next}
 use Rattle.run_laws.proofs.Conversation.{gives-read}
 use Rattle.run_laws.specs.Faithful.{IsRead}
 use Rattle.mount_core.specs.Turn.{RemovesKey}
@@ -47,6 +49,7 @@ put-fits view r key bytes ((answer.Found etag size) ∷ answers) = tt
 put-fits view r key bytes (answer.Missing ∷ answers) = tt
 put-fits view r key bytes (answer.Yes ∷ answers) = tt
 put-fits view r key bytes (answer.No ∷ answers) = tt
+put-fits view r key bytes ((answer.Page page) ∷ answers) = tt
 put-fits view r key bytes ((answer.Bytes n) ∷ answers) = tt
 put-fits view r key bytes (answer.Changed ∷ answers) = tt
 put-fits view r key bytes (answer.Gone ∷ answers) = tt
@@ -63,6 +66,7 @@ delete-fits view r key ((answer.Found etag size) ∷ answers) = tt
 delete-fits view r key (answer.Missing ∷ answers) = tt
 delete-fits view r key (answer.Yes ∷ answers) = tt
 delete-fits view r key (answer.No ∷ answers) = tt
+delete-fits view r key ((answer.Page page) ∷ answers) = tt
 delete-fits view r key ((answer.Bytes n) ∷ answers) = tt
 delete-fits view r key (answer.Changed ∷ answers) = tt
 delete-fits view r key (answer.Gone ∷ answers) = tt
@@ -77,9 +81,9 @@ delete-fits view r key (answer.NoMemory ∷ answers) = tt
 abbrev FitAt : View → Request → (Entry → Next) → Type 0
 FitAt view r at = (entry : Entry) → Fits view r (at entry)
 
-along-fits : (view : View) (r : Request) (root : Reply) (at : Entry → Next) (names : List (List ℕ)) (heard : Heard) → FitAt view r at → Fits view r (along view (Replies root) at names heard)
-along-fits view r root at [] heard fit = tt
-along-fits view r root at (name ∷ names) heard fit = go (walk (fact_in heard.facts) (local_at view.names) name names) heard.answers
+along-fits : (view : View) (r : Request) (root : Next) (at : Entry → Next) (names : List (List ℕ)) (heard : Heard) → Fits view r root → FitAt view r at → Fits view r (along view root at names heard)
+along-fits view r root at [] heard here fit = here
+along-fits view r root at (name ∷ names) heard here fit = go (walk (fact_in heard.facts) (local_at view.names) name names) heard.answers
   where
     go : (decision : Decision) (answers : List Brief) → Fits view r (at_path at decision answers)
     go decision (answer ∷ answers) = tt
@@ -97,7 +101,7 @@ stat_at-fits view r Nothing = tt
 
 stat-fits : (view : View) (r : Request) (path : Result (List (List ℕ)) PathFault) (heard : Heard) → Fits view r (stat_next view path heard)
 stat-fits view r (Err why) heard = tt
-stat-fits view r (Ok names) heard = along-fits view r reply.Directory stat_at names heard (stat_at-fits view r)
+stat-fits view r (Ok names) heard = along-fits view r (Replies reply.Directory) stat_at names heard tt (stat_at-fits view r)
 
 if-fits : (view : View) (r : Request) (opened : Next) → (view.live ≢ max_handles → Fits view r opened) → Fits view r (opens_if view.live opened)
 if-fits view r opened fit = go (view.live == max_handles) refl
@@ -124,7 +128,7 @@ create_at-fits view r may_overwrite key Nothing = if-fits view r (Creates key) (
 open-fits : (at : ℕ → List ℕ → Entry → Next) (view : View) (r : Request) (path : Result (List (List ℕ)) PathFault) (heard : Heard) (handle : Option Handle) → ((key : List ℕ) → FitAt view r (at view.live key)) → Fits view r (open_next at view handle path heard)
 open-fits at view r (Err why) heard handle fit = tt
 open-fits at view r (Ok names) heard (Some handle) fit = tt
-open-fits at view r (Ok names) heard None fit = along-fits view r (reply.Failed Eisdir) (at view.live (joined names)) names heard (fit (joined names))
+open-fits at view r (Ok names) heard None fit = along-fits view r (fails Eisdir) (at view.live (joined names)) names heard tt (fit (joined names))
 
 make_at-fits : (view : View) (r : Request) (key : List ℕ) → FitAt view r (make_at key)
 make_at-fits view r key RemoteDir = tt
@@ -135,7 +139,7 @@ make_at-fits view r key Nothing = tt
 
 make-fits : (view : View) (r : Request) (path : Result (List (List ℕ)) PathFault) (heard : Heard) → Fits view r (make_next view path heard)
 make-fits view r (Err why) heard = tt
-make-fits view r (Ok names) heard = along-fits view r (reply.Failed Eexist) (make_at (joined names)) names heard (make_at-fits view r (joined names))
+make-fits view r (Ok names) heard = along-fits view r (fails Eexist) (make_at (joined names)) names heard tt (make_at-fits view r (joined names))
 
 remove_at-fits : (view : View) (r : Request) (key : List ℕ) → RemovesKey r key → FitAt view r (remove_at view.names key)
 remove_at-fits view r key removes RemoteDir = tt
@@ -151,7 +155,7 @@ remove_at-fits view r key removes Nothing = tt
 remove-fits : (view : View) (text : List ℕ) (path : Result (List (List ℕ)) PathFault) (heard : Heard) → path_of text ≡ path → Fits view (request.RemoveDir text) (remove_next view path heard)
 remove-fits view text (Err why) heard is = tt
 remove-fits view text (Ok names) heard is =
-    along-fits view (request.RemoveDir text) (reply.Failed Eperm) (remove_at view.names (joined names)) names heard
+    along-fits view (request.RemoveDir text) (fails Eperm) (remove_at view.names (joined names)) names heard tt
     (remove_at-fits view (request.RemoveDir text) (joined names) (record { path = text; is = refl; names = names; path_is = is; key_is = refl }))
 
 unlink_at-fits : (view : View) (r : Request) (may_delete : Bool) (key : List ℕ) → FitAt view r (unlink_at may_delete key)
@@ -167,7 +171,7 @@ unlink-fits view r (Err why) heard = tt
 unlink-fits view r (Ok names) heard = go heard.answers
   where
     walks : (answers : List Brief) → Fits view r (along view (fails Eisdir) (unlink_at view.options.allow_delete (joined names)) names (record { facts = heard.facts; answers = answers }))
-    walks answers = along-fits view r (reply.Failed Eisdir) (unlink_at view.options.allow_delete (joined names)) names (record { facts = heard.facts; answers = answers }) (unlink_at-fits view r view.options.allow_delete (joined names))
+    walks answers = along-fits view r (fails Eisdir) (unlink_at view.options.allow_delete (joined names)) names (record { facts = heard.facts; answers = answers }) tt (unlink_at-fits view r view.options.allow_delete (joined names))
 
     go : (answers : List Brief) → Fits view r (unlink_next view (Ok names) (record { facts = heard.facts; answers = answers }))
     go [] = walks []
@@ -175,6 +179,7 @@ unlink-fits view r (Ok names) heard = go heard.answers
     go (answer.Missing ∷ answers) = walks (answer.Missing ∷ answers)
     go (answer.Yes ∷ answers) = walks (answer.Yes ∷ answers)
     go (answer.No ∷ answers) = walks (answer.No ∷ answers)
+    go ((answer.Page page) ∷ answers) = walks ((answer.Page page) ∷ answers)
     go ((answer.Bytes n) ∷ answers) = walks ((answer.Bytes n) ∷ answers)
     go (answer.Changed ∷ answers) = walks (answer.Changed ∷ answers)
     go (answer.Gone ∷ answers) = tt
@@ -185,6 +190,49 @@ unlink-fits view r (Ok names) heard = go heard.answers
     go (answer.Fault ∷ answers) = walks (answer.Fault ∷ answers)
     go (answer.NoMemory ∷ answers) = walks (answer.NoMemory ∷ answers)
 
+-- a listing
+page-fits : (view : View) (r : Request) (prefix : List ℕ) (answers : List Brief) (page : Page) → Fits view r (behind_page view prefix answers page)
+page-fits view r prefix answers page = by_tests page.more (nat_lt (length answers) max_pages)
+  where
+    by_tests : (more few : Bool) → Fits view r (if not more then Lists (listing_of prefix (items_of (pages_in answers)) view.names) else (if few then asks_page view prefix (last_text [] page.items) else fails Eoverflow))
+    by_tests false few = tt
+    by_tests true true = tt
+    by_tests true false = tt
+
+answered-fits : (view : View) (r : Request) (prefix : List ℕ) (answers : List Brief) (last : Brief) → Fits view r (behind_answer view prefix answers last)
+answered-fits view r prefix answers (answer.Page page) = page-fits view r prefix answers page
+answered-fits view r prefix answers (answer.Found etag size) = tt
+answered-fits view r prefix answers answer.Missing = tt
+answered-fits view r prefix answers answer.Yes = tt
+answered-fits view r prefix answers answer.No = tt
+answered-fits view r prefix answers (answer.Bytes n) = tt
+answered-fits view r prefix answers answer.Changed = tt
+answered-fits view r prefix answers answer.Gone = tt
+answered-fits view r prefix answers (answer.Made etag) = tt
+answered-fits view r prefix answers (answer.Upload id) = tt
+answered-fits view r prefix answers answer.Stored = tt
+answered-fits view r prefix answers answer.NoUpload = tt
+answered-fits view r prefix answers answer.Fault = tt
+answered-fits view r prefix answers answer.NoMemory = tt
+
+list_at-fits : (view : View) (r : Request) (first : Next) → Fits view r first → FitAt view r (list_at first)
+list_at-fits view r first fit RemoteDir = fit
+list_at-fits view r first fit LocalDir = fit
+list_at-fits view r first fit (LocalFile size) = tt
+list_at-fits view r first fit (File etag size) = tt
+list_at-fits view r first fit Nothing = tt
+
+list-fits : (view : View) (r : Request) (path : Result (List (List ℕ)) PathFault) (heard : Heard) → Fits view r (list_next view path heard)
+list-fits view r (Err why) heard = tt
+list-fits view r (Ok names) heard = go heard.answers
+  where
+    first : Next
+    first = asks_page view (prefix_of names) []
+
+    go : (answers : List Brief) → Fits view r (list_next view (Ok names) (record { facts = heard.facts; answers = answers }))
+    go [] = along-fits view r first (list_at first) names (record { facts = heard.facts; answers = [] }) tt (list_at-fits view r first tt)
+    go (answer ∷ answers) = answered-fits view r (prefix_of names) (answer ∷ answers) (last_of answer answers)
+
 range-fits : (view : View) (r : Request) (version : Version) (range : Option Range) (answers : List Brief) → Fits view r (range_next version range answers)
 range-fits view r version None answers = tt
 range-fits view r version (Some range) [] = tt
@@ -192,6 +240,7 @@ range-fits view r version (Some range) ((answer.Found etag size) ∷ answers) = 
 range-fits view r version (Some range) (answer.Missing ∷ answers) = tt
 range-fits view r version (Some range) (answer.Yes ∷ answers) = tt
 range-fits view r version (Some range) (answer.No ∷ answers) = tt
+range-fits view r version (Some range) ((answer.Page page) ∷ answers) = tt
 range-fits view r version (Some range) ((answer.Bytes n) ∷ answers) = tt
 range-fits view r version (Some range) (answer.Changed ∷ answers) = tt
 range-fits view r version (Some range) (answer.Gone ∷ answers) = tt
@@ -237,6 +286,7 @@ next-fits : (view : View) (r : Request) (heard : Heard) → Fits view r (next_of
 next-fits view (request.Put key content) heard = put-fits view (request.Put key content) key (bytes_of content) heard.answers
 next-fits view request.Await heard = tt
 next-fits view (request.Stat path) heard = stat-fits view (request.Stat path) (path_of path) heard
+next-fits view (request.List path) heard = list-fits view (request.List path) (path_of path) heard
 next-fits view (request.OpenRead name path) heard = open-fits open_at view (request.OpenRead name path) (path_of path) heard view.handle (open_at-fits view (request.OpenRead name path))
 next-fits view (request.OpenWrite name path) heard = open-fits (create_at false) view (request.OpenWrite name path) (path_of path) heard view.handle (create_at-fits view (request.OpenWrite name path) false)
 next-fits view (request.OpenTruncate name path) heard = open-fits (create_at view.options.allow_overwrite) view (request.OpenTruncate name path) (path_of path) heard view.handle (create_at-fits view (request.OpenTruncate name path) view.options.allow_overwrite)
@@ -276,6 +326,7 @@ gives_none view r count is = by_request r (gives-read view r nothing_heard count
     by_request (request.Put key content) read is = absurd read
     by_request request.Await read is = absurd read
     by_request (request.Stat path) read is = absurd read
+    by_request (request.List path) read is = absurd read
     by_request (request.OpenRead name path) read is = absurd read
     by_request (request.OpenWrite name path) read is = absurd read
     by_request (request.OpenTruncate name path) read is = absurd read
@@ -306,6 +357,7 @@ gives_brought view r heard called question last count asks gives =
     by_last version range answer.Missing gives = absurd (cc)
     by_last version range answer.Yes gives = absurd (cc)
     by_last version range answer.No gives = absurd (cc)
+    by_last version range (answer.Page page) gives = absurd (cc)
     by_last version range (answer.Bytes n) gives = let same : n ≡ count = cc in ap (λ k. answer.Bytes k) same
     by_last version range answer.Changed gives = absurd (cc)
     by_last version range answer.Gone gives = absurd (cc)
@@ -321,6 +373,7 @@ gives_brought view r heard called question last count asks gives =
     none-asked version range answer.Missing answers asks = absurd (cc)
     none-asked version range answer.Yes answers asks = absurd (cc)
     none-asked version range answer.No answers asks = absurd (cc)
+    none-asked version range (answer.Page page) answers asks = absurd (cc)
     none-asked version range (answer.Bytes n) answers asks = absurd (cc)
     none-asked version range answer.Changed answers asks = absurd (cc)
     none-asked version range answer.Gone answers asks = absurd (cc)
@@ -351,6 +404,7 @@ gives_brought view r heard called question last count asks gives =
     by_request (request.Put key content) told read asks gives = absurd read
     by_request request.Await told read asks gives = absurd read
     by_request (request.Stat path) told read asks gives = absurd read
+    by_request (request.List path) told read asks gives = absurd read
     by_request (request.OpenRead name path) told read asks gives = absurd read
     by_request (request.OpenWrite name path) told read asks gives = absurd read
     by_request (request.OpenTruncate name path) told read asks gives = absurd read

@@ -26,7 +26,7 @@ use Rattle.mount_model.specs.declared.standing.Standing.{Standing}
 use Rattle.mount_model.specs.declared.standing.Told.{Told}
 use Rattle.mount_model.specs.Step.{Step, change_last, with_ask, HasStep}
 use Rattle.mount_model.specs.State.{ClientState, Shared, Job, Ready, Turn, TurnOf, line_at, change_line, jobs_asked, jobs_of_line, by_reply, reply_in, shared_after, view_of, with_answered, with_replies}
-use Rattle.mount_model.specs.Conversation.{Next, Replies, Makes, Removes, Opens, Creates, Gives, Writes, Ends as EndsIt, Waits, View, next_of, sync_next, close_next}
+use Rattle.mount_model.specs.Conversation.{Next, Replies, Makes, Removes, Opens, Creates, Lists, Gives, Writes, Ends as EndsIt, Waits, View, next_of, sync_next, close_next}
 use Rattle.mount_model.specs.Conversation as said
 use Rattle.mount_model.specs.Handles.{Writer, name_in, handle_named, handle_of}
 use Rattle.mount_model.specs.Reads.{GivesOnly}
@@ -57,6 +57,7 @@ none-asked step line (Makes key) none = refl
 none-asked step line (Removes key) none = refl
 none-asked step line (Opens version) none = refl
 none-asked step line (Creates key) none = refl
+none-asked step line (Lists entries) none = refl
 none-asked step line (Gives count) none = refl
 none-asked step line (Writes count writer) none = rw none refl
 none-asked step line (EndsIt writer) none = rw none refl
@@ -202,6 +203,7 @@ lacks_turn n (said.Asks called) may state step line who number asks drops = inr 
 lacks_turn n (Makes key) may state step line who number asks drops = inr (asks, ap (λ k. record { line = k; reply = reply.Failed Enomem } ∷ []) (sym number), drops)
 lacks_turn n (Opens version) may state step line who number asks drops = inr (asks, ap (λ k. record { line = k; reply = reply.Failed Enomem } ∷ []) (sym number), drops)
 lacks_turn n (Creates key) may state step line who number asks drops = inr (asks, ap (λ k. record { line = k; reply = reply.Failed Enomem } ∷ []) (sym number), drops)
+lacks_turn n (Lists entries) may state step line who number asks drops = inr (asks, ap (λ k. record { line = k; reply = reply.Failed Enomem } ∷ []) (sym number), drops)
 lacks_turn n (Removes key) may state step line who number asks drops = absurd may
 lacks_turn n (Replies told) may state step line who number asks drops = absurd may
 lacks_turn n (Gives count) may state step line who number asks drops = absurd may
@@ -215,6 +217,7 @@ lacks_does (said.Asks called) may line step shared = refl
 lacks_does (Makes key) may line step shared = refl
 lacks_does (Opens version) may line step shared = refl
 lacks_does (Creates key) may line step shared = refl
+lacks_does (Lists entries) may line step shared = refl
 lacks_does (Removes key) may line step shared = absurd may
 lacks_does (Replies told) may line step shared = absurd may
 lacks_does (Gives count) may line step shared = absurd may
@@ -283,6 +286,7 @@ plain-gives bytes n reply.Success plain = tt
 plain-gives bytes n reply.Directory plain = tt
 plain-gives bytes n (reply.File size) plain = tt
 plain-gives bytes n (reply.Writing size) plain = tt
+plain-gives bytes n (reply.Listed entries) plain = tt
 plain-gives bytes n (reply.Open size) plain = tt
 plain-gives bytes n (reply.Data data_bytes) plain = absurd plain
 plain-gives bytes n (reply.Wrote length) plain = tt

@@ -13,8 +13,6 @@ use Rattle.mount_model.specs.declared.handle.Handle.TheVariants.{Writing}
 use Rattle.mount_model.specs.declared.handle.Waiter.{Waiter}
 use Rattle.mount_model.specs.declared.handle.Waiter.TheVariants as waiter
 use Rattle.mount_model.specs.declared.request.Request.{Request}
-use Rattle.mount_model.specs.declared.request.Reply.{Reply}
-use Rattle.mount_model.specs.declared.request.Reply.TheVariants as reply
 use Rattle.mount_model.specs.declared.event.Ask.{Ask}
 use Rattle.mount_model.specs.declared.event.Answered.{Answered}
 use Rattle.mount_model.specs.declared.event.Owner.{Owner}
@@ -30,7 +28,6 @@ use Rattle.mount_model.specs.Conversation.{View, Ends, close_next, next_of, sync
 use Rattle.mount_model.specs.State.{ClientState, Shared, Job, Gone, Turn, TurnOf, TurnOfWriter, askings_of, calls_of, change_job, change_line, handle_name, holds, jobs_asked, jobs_at, jobs_made, jobs_of_writer, line_at, shared_after, turn_of_handle, turn_of_writer, view_of, with_answered, with_replies, writer_behind, writer_left}
 use Rattle.mount_model.specs.Run.{TakesTurn, TakesTurnOfWriter, numbered}
 use Rattle.mount_plan.specs.Meant.{with_last}
-use Rattle.run_laws.proofs.Conversation.{IsPlain}
 use Rattle.run_laws.proofs.Jobs.{length-change_job}
 use Rattle.run_laws.proofs.Keyed.{all-append}
 use Rattle.run_laws.proofs.Left.{AnswerIs, NoAnswer, OneAnswer, answer-is}

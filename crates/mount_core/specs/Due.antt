@@ -8,18 +8,19 @@ use Rattle.mount_model.specs.declared.handle.Waiter.TheVariants as waiter
 use Rattle.mount_model.specs.declared.request.Request.{Request}
 use Rattle.mount_model.specs.declared.request.Request.TheVariants as request
 use Rattle.mount_model.specs.Handles.{Handle, Writer}
-use Rattle.mount_model.specs.Conversation.{Next, Asks, Replies, Makes, Removes, Opens, Creates, Gives, Waits}
+use Rattle.mount_model.specs.Conversation.{Next, Asks, Replies, Makes, Removes, Opens, Creates, Lists, Gives, Waits}
 use Rattle.mount_model.specs.Run.{asked_of}
 use Rattle.job_table.specs.LiveJobs.{purpose_of}
 use Rattle.mount_core.specs.declared.due.Due.{Due}
 use Rattle.mount_core.specs.declared.due.Due.TheVariants as due
 
--- what may find no memory: a call, a handle, and a directory that is made
+-- what may find no memory: a call, a handle, a directory that is made, and what one shows
 abbrev pub MayLack : Next → Type 0
 MayLack (Asks called) = Unit {0}
 MayLack (Opens version) = Unit {0}
 MayLack (Makes key) = Unit {0}
 MayLack (Creates key) = Unit {0}
+MayLack (Lists entries) = Unit {0}
 MayLack other = ⊥
 
 -- what a writer is due is said beside this, by whose it is
@@ -30,6 +31,7 @@ DueMeans (due.MakeDir key) expected next = next ≡ Makes key
 DueMeans due.RemoveDir expected next = (key : List ℕ) × (next ≡ Removes key)
 DueMeans (due.Open version) expected next = next ≡ Opens version
 DueMeans (due.Create key) expected next = next ≡ Creates key
+DueMeans (due.Listed entries) expected next = next ≡ Lists entries
 DueMeans due.Data expected next = (count : ℕ) × (next ≡ Gives count)
 DueMeans due.Write expected next = Unit {0}
 DueMeans (due.Wait who) expected next = Unit {0}

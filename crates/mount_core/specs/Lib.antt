@@ -6,3 +6,4 @@ pub mod Room
 pub mod Shared
 pub mod Turn
 pub mod Writing
+pub mod Listing

@@ -2,6 +2,8 @@ ghost use Rattle.std.specs.Prelude.{◌≡◌, ◌<◌, List, [], ◌↔◌, tru
 ghost use Rattle.std.specs.List.{AllByRecursion};
 ghost use Rattle.mp_types.specs.Options.{AreWithin};
 ghost use Rattle.bucket_model.specs.Answers.{MayBeMade, brief_of, bytes_in};
+ghost use Rattle.bucket_model.specs.declared.answer.Brief.TheVariants as brief;
+ghost use Rattle.bucket_model.specs.declared.page.Page.{Page};
 ghost use Rattle.mount_model.specs.declared.event.Event.TheVariants.{Begin, Take, Done};
 ghost use Rattle.mount_model.specs.State.{Job, job_at};
 ghost use Rattle.bucket_model.specs.declared.call.Call.{Call};
@@ -36,16 +38,6 @@ impl Model for Core {
     ghost invariant = { λ c. IsCore c.work (core_of c.work) };
 }
 
-// The bytes that an answer brings, or none.
-fn bytes_of(answer: Answer) -> Bytes
-    ensures { result ≡ bytes_in answer }
-{
-    match answer {
-        Answer::Bytes(bytes) => bytes,
-        _ => Bytes::new(),
-    }
-}
-
 // The question that a call of this purpose asks, if it asks one.
 fn question_in(purpose: Purpose) -> Option<Question>
     ensures { (called : Call) → purpose_of called ≡ purpose → result ≡ question_of called }
@@ -54,6 +46,13 @@ fn question_in(purpose: Purpose) -> Option<Question>
         Purpose::Question(question) => Some(question),
         _ => None,
     }
+}
+
+// Whether more stands behind the page that an answer brings.
+fn tells_more(answer: &Answer) -> bool
+    ensures { (page : Page) → brief_of answer.now ≡ brief.Page page → page.more ≡ result }
+{
+    matches!(answer, Answer::Page(page) if page.more)
 }
 
 impl Core {
@@ -118,20 +117,29 @@ impl Core {
     }
 
     /// The answer of a job that is out has come; its entry stands at this position. The bytes that it brings are
-    /// those that the line's reply gives, and are not copied.
+    /// those that the line's reply gives, and nothing is copied. A line can't hear of a page whose items have too many
+    /// owners: its listing fails.
     pub fn done(&mut self, job: u64, position: u64, answer: Answer)
         requires { MayDone (state_of self.old) job position (brief_of answer) }
         ensures { Advances (Done job position (brief_of answer)) (bytes_in answer) self.old self.new }
     {
-        let asker = self.work.end_job(job, position, answer.brief());
+        let more = tells_more(&answer);
+        let heard = answer.brief();
+        let (brief, bytes) = answer.split();
+        let asker = self.work.end_job(job, position, brief);
         if let Owner::Writer(opened) = asker.owner {
-            self.work.hear(opened, asker.purpose, answer.brief());
+            let Ok(heard) = heard else { unreachable!() };
+            self.work.hear(opened, asker.purpose, heard);
             self.work.answer_awaits();
             return;
         }
-        let told = told_by(question_in(asker.purpose), answer.brief());
-        self.work
-            .turn_line(asker.line, Some(told), bytes_of(answer));
+        let Ok(heard) = heard else {
+            self.work.fail_listing(asker.line, more);
+            self.work.answer_awaits();
+            return;
+        };
+        let told = told_by(question_in(asker.purpose), heard);
+        self.work.turn_line(asker.line, Some(told), bytes);
         self.work.answer_awaits();
     }
 

@@ -1,20 +1,25 @@
-ghost use Rattle.std.specs.Prelude.{◌≡◌, ℕ, ◌<◌, ◌≤◌, Option, length, IfOk, option_copied};
+ghost use Rattle.std.specs.Prelude.{◌≡◌, ℕ, ◌<◌, ◌≤◌, List, Option, length, Ok, IfOk, option_copied};
 ghost use Rattle.mp_types.specs.Content.{bytes_of};
-ghost use Rattle.bucket_model.specs.declared.call.Call.TheVariants.{Delete, Get, Head, Probe, Put};
+ghost use Rattle.mp_types.specs.Path.{path_of};
+ghost use Rattle.bucket_model.specs.declared.call.Call.TheVariants.{Delete, Get, Head, List as Page, Probe, Put};
+ghost use Rattle.listing_rules.specs.Names.{listing_of, prefix_of};
+ghost use Rattle.listing_rules.specs.Pages.{items_of};
 ghost use Rattle.mount_model.specs.declared.request.Request.{Request};
-ghost use Rattle.mount_model.specs.Conversation.{Next, Asks, Makes, Opens, Creates, next_of};
+ghost use Rattle.mount_model.specs.Conversation.{Next, Asks, Makes, Opens, Creates, Lists, next_of, pages_in};
 ghost use Rattle.mount_model.specs.Handles.{Handle as HandleAt, owner_for};
 ghost use Rattle.mount_plan.specs.Meant.{MeansOne, with_last};
 ghost use Rattle.mount_plan.specs.Seen.{view_of};
 ghost use Rattle.mount_core.specs.Due.{DueMeans, DueIsOf, DueTells};
 
+use crate::listing::{listing, page_calls};
 use bucket_model::Call;
 use bytes::Bytes;
 use job_table::{Asking, Purpose};
+use local_names::Locals;
 use mount_model::{AskedCall, Handle, Heard, Owner, Reply, Request, Told, Version, Waiter};
 use mount_plan::{LinePlan, Plan, View, plan};
-use mp_rules::Question;
-use mp_types::{Data, ETag, Key, KeyFault};
+use mp_rules::{DirEntry, Question};
+use mp_types::{Data, ETag, Items, Key, KeyFault};
 use part_uploader::Uploader;
 use std::alloc::{AllocError, Global};
 
@@ -32,6 +37,8 @@ pub enum Due {
     Open(Version),
     /// A handle on a new file of this key.
     Create(Key),
+    /// What a directory shows.
+    Listed(Items<DirEntry>),
     /// The content of its request goes to the writer of its handle. No byte is copied before that.
     Write,
     /// The writer of its handle makes its object, and the line waits for it so.
@@ -40,7 +47,7 @@ pub enum Due {
     Data,
     /// It waits for other lines.
     Nothing,
-    /// A call, a handle or a directory is due, and there is no memory for it.
+    /// A call, a handle, a directory or what one shows is due, and there is no memory for it.
     NoMemory,
 }
 
@@ -110,6 +117,24 @@ fn head(alloc: Global, line: u32, owner: Owner, text: &str) -> Due
             call: Call::Head { key },
             asked: AskedCall::Head { key: told },
             purpose: Purpose::Question(Question::Head(asked)),
+        }),
+        Err(_) => Due::NoMemory,
+    }
+}
+
+fn page(alloc: Global, line: u32, owner: Owner, path: &str, after: &str, max: u32) -> Due
+    requires { (names : List (List ℕ)) × (path_of path.now ≡ Ok names) }
+    ensures means { (names : List (List ℕ)) → path_of path.now ≡ Ok names → DueMeans result owner (Asks (Page (prefix_of names) after.now max)) }
+    ensures whose { (number : ℕ) (asked : Request) (handle : Option HandleAt) → DueIsOf result number asked handle }
+    ensures tells { DueTells result line }
+{
+    match page_calls(alloc, path, after, max) {
+        Ok((call, asked)) => Due::Call(Asking {
+            owner,
+            line,
+            call,
+            asked,
+            purpose: Purpose::Other,
         }),
         Err(_) => Due::NoMemory,
     }
@@ -243,6 +268,18 @@ fn create(alloc: Global, text: &str) -> Due
     }
 }
 
+fn listed(alloc: Global, path: &str, heard: &Heard, last: Option<&Told>, names: &Locals) -> Due
+    requires { (below : List (List ℕ)) × (path_of path.now ≡ Ok below) }
+    ensures means { (owner : Owner) (below : List (List ℕ)) → path_of path.now ≡ Ok below → DueMeans result owner (Lists (listing_of (prefix_of below) (items_of (pages_in (with_last (option_copied last.entry) heard.now).answers)) names.now)) }
+    ensures whose { (number : ℕ) (asked : Request) (handle : Option HandleAt) → DueIsOf result number asked handle }
+    ensures tells { (line : ℕ) → DueTells result line }
+{
+    match listing(alloc, path, heard, last, names) {
+        Ok(entries) => Due::Listed(entries),
+        Err(_) => Due::NoMemory,
+    }
+}
+
 // Whose jobs the line asks for: a read asks for the stream of its handle.
 fn owner_of(line: u32, request: &Request, handle: Option<&Handle<Uploader>>) -> Owner
     ensures { result ≡ owner_for line request.now (option_copied handle.entry) }
@@ -266,6 +303,7 @@ fn line_due(alloc: Global, line: u32, owner: Owner, plan: LinePlan) -> Due
     match plan {
         LinePlan::Probe(key) => probe(alloc, line, owner, key),
         LinePlan::Head(key) => head(alloc, line, owner, key),
+        LinePlan::Page { path, after, max } => page(alloc, line, owner, path, after, max),
         LinePlan::Get { version, from, to } => get(alloc, line, owner, version, from, to),
         LinePlan::Delete(key) => delete(alloc, line, owner, key.as_str()),
         LinePlan::Unlink(key) => delete(alloc, line, owner, key),
@@ -274,6 +312,12 @@ fn line_due(alloc: Global, line: u32, owner: Owner, plan: LinePlan) -> Due
         LinePlan::RemoveDir(_) => Due::RemoveDir,
         LinePlan::Open { key, etag, size } => open(alloc, key, etag, size),
         LinePlan::Create { key } => create(alloc, key),
+        LinePlan::List {
+            path,
+            heard,
+            last,
+            names,
+        } => listed(alloc, path, heard, last, names),
         LinePlan::Give { .. } => Due::Data,
         LinePlan::Reply(reply) => Due::Reply(reply),
         LinePlan::Wait => Due::Nothing,

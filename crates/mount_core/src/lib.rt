@@ -4,6 +4,7 @@
 
 mod client;
 mod due;
+mod listing;
 mod seen;
 mod turn;
 mod work;

@@ -1,5 +1,10 @@
 ghost use Rattle.std.specs.Prelude.{◌≡◌, ◌≢◌, ℕ, List, length, false, Some, None, OnOk, OnErr, ◌⊎◌};
+ghost use Rattle.bucket_model.specs.declared.answer.Brief.TheVariants as answer;
+ghost use Rattle.bucket_model.specs.declared.page.Page.{Page};
+ghost use Rattle.mount_model.specs.declared.standing.Heard.{Heard};
+ghost use Rattle.mount_model.specs.declared.standing.Phase.TheVariants.{Begun};
 ghost use Rattle.mount_model.specs.declared.standing.Standing.{Standing};
+ghost use Rattle.mount_model.specs.declared.standing.Told.TheVariants.{Answer as Hears};
 ghost use Rattle.mount_model.specs.Step.{Step, HasStep};
 ghost use Rattle.mount_model.specs.State.{by_reply, closes, has_effect, line_at};
 ghost use Rattle.mount_model.specs.Conversation.{Gives, Makes, Opens, Removes, Replies};
@@ -7,14 +12,17 @@ ghost use Rattle.mount_model.specs.Run.{asked_of, due_awaits};
 ghost use Rattle.line_table.specs.Table.{HasBegun};
 ghost use Rattle.job_table.specs.LiveJobs.{purpose_of};
 ghost use Rattle.local_names.specs.Names.{is_name};
+ghost use Rattle.mount_plan.specs.Unkept.{unkept_errno};
 ghost use Rattle.mount_core.specs.Due.{DueTells};
+ghost use Rattle.mount_core.specs.Listing.{IsListing};
 
 use crate::due::Due;
 use crate::seen::name_in;
 use crate::work::Work;
 use bytes::Bytes;
 use job_table::Asking;
-use mount_model::{Handle, Reply, Request, Told, Version};
+use mount_model::{Handle, Phase, Reply, Request, Told, Version};
+use mount_plan::unkept_errno;
 use mp_types::{Errno, Key, below_root};
 use std::alloc::AllocError;
 
@@ -157,8 +165,8 @@ impl Work {
         self.reply_line(line, Reply::Success);
     }
 
-    /// The line does what is due: it asks, replies, makes or removes its directory, opens, writes, gives these bytes or
-    /// waits. Where a call, a handle or a directory finds no memory, the reply says so.
+    /// The line does what is due: it asks, replies, makes or removes its directory, opens, gives what a directory shows,
+    /// writes, gives these bytes or waits. Where a call, a handle or a directory finds no memory, the reply says so.
     pub fn go_on(&mut self, line: u32, due: Due, last: Option<Told>, bytes: Bytes)
         requires begun { HasBegun line self.old.lines }
         requires step { HasStep self.old.record.steps }
@@ -181,6 +189,7 @@ impl Work {
             Due::RemoveDir => self.remove_dir(line),
             Due::Open(version) => self.open(line, version),
             Due::Create(key) => self.create(line, key),
+            Due::Listed(entries) => self.reply_line(line, Reply::Listed(entries)),
             Due::Write => self.write(line),
             Due::Wait(waiter) => self.wait(line, waiter),
             Due::Data => self.reply_line(line, Reply::Data(bytes)),
@@ -199,6 +208,32 @@ impl Work {
     {
         let due = self.due(line, last.as_ref());
         self.go_on(line, due, last, bytes);
+    }
+
+    // The error of a line that can't keep the next page of its listing.
+    fn unkept(&self, line: u32, more: bool) -> Errno
+        requires { HasBegun line self.now.lines }
+        ensures { (s : Standing) (heard : Heard) → line_at line self.now.lines ≡ Some s → s.phase ≡ Begun heard → result ≡ unkept_errno more heard.answers }
+    {
+        let Some(standing) = self.lines.standing(line) else {
+            unreachable!()
+        };
+        match &standing.phase {
+            Phase::Begun(heard) => unkept_errno(heard, more),
+            Phase::Waiting => unreachable!(),
+            Phase::Replied => unreachable!(),
+        }
+    }
+
+    /// The turn of a line whose listing gets a page that can't be kept, since its items have too many owners. Where there
+    /// is more behind that page, so many may have come that the listing fails for that.
+    pub fn fail_listing(&mut self, line: u32, more: bool)
+        requires listing { IsListing line self.old.lines }
+        requires step { HasStep self.old.record.steps }
+        ensures { (page : Page) (bytes : List ℕ) → page.more ≡ more → Takes (turn_behind line (Some (Hears (answer.Page page))) self.old) (lines_behind line (Some (Hears (answer.Page page))) self.old) bytes self.old self.new }
+    {
+        let errno = self.unkept(line, more);
+        self.reply_line(line, Reply::Failed(errno));
     }
 
     /// Each await that has become due gets its reply, one after another.

@@ -1,7 +1,8 @@
 -- What a line does next, by what it sees of the mount and what it has heard of its own calls so far.
-use Rattle.std.specs.Prelude.{ℕ, ◌+◌, ◌*◌, List, [], ◌∷◌, length, min, Bool, true, false, not, ◌||◌, ◌==◌, nat_le, nat_lt, if◌then◌else◌, Option, Some, None, Result, Ok, Err}
+use Rattle.std.specs.Prelude.{ℕ, ◌+◌, ◌*◌, List, [], ◌∷◌, length, min, Bool, false, not, ◌||◌, ◌==◌, nat_le, nat_lt, if◌then◌else◌, Option, Some, None, Result, Ok, Err}
+use Rattle.std.specs.List.{filter_map}
 use Rattle.mp_types.specs.declared.errno.Errno.{Errno}
-use Rattle.mp_types.specs.declared.errno.Errno.TheVariants.{Eperm, Eio, Ebadf, Enomem, Enoent, Eexist, Eisdir, Enotdir, Einval, Emfile, Efbig, Enametoolong, Enotempty, Estale}
+use Rattle.mp_types.specs.declared.errno.Errno.TheVariants.{Eperm, Eio, Ebadf, Enomem, Enoent, Eexist, Eisdir, Enotdir, Einval, Emfile, Efbig, Enametoolong, Enotempty, Eoverflow, Estale}
 use Rattle.mp_types.specs.declared.path.PathFault.{PathFault}
 use Rattle.mp_types.specs.declared.path.PathFault.TheVariants as fault
 use Rattle.mp_types.specs.Content.{bytes_of}
@@ -12,9 +13,14 @@ use Rattle.mp_rules.specs.Walk.{Decision, Need, Is, Refused, fact_in, walk}
 use Rattle.mp_rules.specs.Local.{LocalNames, local_at, has_name_below}
 use Rattle.mp_types.specs.declared.options.Opts.{Opts}
 use Rattle.mp_types.specs.HandleName.{max_handles}
+use Rattle.mp_rules.specs.declared.entry.DirEntry.{DirEntry}
+use Rattle.listing_rules.specs.Names.{listing_of, prefix_of}
+use Rattle.listing_rules.specs.Pages.{items_of, last_text}
+use Rattle.bucket_model.specs.declared.page.Page.{Page}
 use Rattle.bucket_model.specs.declared.call.Call.{Call}
 use Rattle.bucket_model.specs.declared.call.Call.TheVariants as call
 use Rattle.bucket_model.specs.declared.answer.Brief.{Brief}
+use Rattle.bucket_model.specs.declared.answer.Brief.TheVariants as answer
 use Rattle.bucket_model.specs.declared.answer.Brief.TheVariants.{Missing, Bytes, Changed, Gone, Made, NoMemory}
 use Rattle.bucket_model.specs.Answers.{max_parts}
 use Rattle.upload_rules.specs.declared.upload.UpState.{UpState}
@@ -27,13 +33,14 @@ use Rattle.mount_model.specs.declared.handle.Version.{Version}
 use Rattle.mount_model.specs.declared.handle.Waiter.{Waiter}
 use Rattle.mount_model.specs.declared.handle.Waiter.TheVariants as waiter
 use Rattle.mount_model.specs.declared.request.Request.{Request}
+use Rattle.mount_model.specs.declared.request.Request.TheVariants as request
 use Rattle.mount_model.specs.declared.request.Request.TheVariants.{Put, Await, Stat, OpenRead, OpenWrite, OpenTruncate, Read, Write, Sync, Close, Delete, MakeDir, RemoveDir, Unlink}
 use Rattle.mount_model.specs.declared.request.Reply.{Reply}
 use Rattle.mount_model.specs.declared.request.Reply.TheVariants as reply
 use Rattle.mount_model.specs.Handles.{Handle, Writer}
 
 -- A line asks one call at a time, replies, makes or removes the directory of a key, opens a handle on a version or on a
--- new file, gives the bytes of its last answer, has its writer go on from here, or waits for other lines.
+-- new file, gives what a listing shows, gives the bytes of its last answer, has its writer go on from here, or waits for other lines.
 pub data Next : Type 0 where
   Asks : Call → Next
   Replies : Reply → Next
@@ -41,6 +48,7 @@ pub data Next : Type 0 where
   Removes : List ℕ → Next
   Opens : Version → Next
   Creates : List ℕ → Next
+  Lists : List DirEntry → Next
   Gives : ℕ → Next
   Writes : ℕ → Writer → Next
   Ends : Writer → Next
@@ -168,6 +176,58 @@ unlink_next view (Ok names) heard = by_answers heard.answers
     by_answers (Gone ∷ answers) = Replies reply.Success
     by_answers answers = along view (fails Eisdir) (unlink_at view.options.allow_delete (joined names)) names heard
 
+-- what has come of a listing so far
+
+-- a listing has at most so many pages
+abbrev pub max_pages : ℕ
+max_pages = 10000
+
+abbrev pub page_in : Brief → Option Page
+page_in (answer.Page page) = Some page
+page_in other = None
+
+abbrev pub pages_in : List Brief → List Page
+pages_in answers = filter_map page_in answers
+
+abbrev pub last_of : Brief → List Brief → Brief
+last_of answer [] = answer
+last_of answer (next ∷ answers) = last_of next answers
+
+-- one page of the directory with this prefix, behind this text
+abbrev pub asks_page : View → List ℕ → List ℕ → Next
+asks_page view prefix after = Asks (call.List prefix after view.options.page)
+
+-- a page came: the next one, where there is more and so many haven't come yet; else the names of all
+abbrev pub behind_page : View → List ℕ → List Brief → Page → Next
+behind_page view prefix answers last =
+    if not last.more then Lists (listing_of prefix (items_of (pages_in answers)) view.names)
+    else (if nat_lt (length answers) max_pages then asks_page view prefix (last_text [] last.items) else fails Eoverflow)
+
+-- after the last answer; one that is no page has failed
+abbrev pub behind_answer : View → List ℕ → List Brief → Brief → Next
+behind_answer view prefix answers (answer.Page page) = behind_page view prefix answers page
+behind_answer view prefix answers other = fails (errno_of other)
+
+-- only a directory is listed
+abbrev pub list_at : Next → Entry → Next
+list_at lists RemoteDir = lists
+list_at lists LocalDir = lists
+list_at lists (LocalFile size) = fails Enotdir
+list_at lists (File etag size) = fails Enotdir
+list_at lists Nothing = fails Enoent
+
+-- A directory is listed page by page, from its first one on. With the first of its answers the walk is over.
+abbrev pub list_next : View → Result (List (List ℕ)) PathFault → Heard → Next
+list_next view (Err why) heard = fails (errno_of_path why)
+list_next view (Ok names) heard = by_answers heard.answers
+  where
+    first : Next
+    first = asks_page view (prefix_of names) []
+
+    by_answers : List Brief → Next
+    by_answers [] = along view first (list_at first) names heard
+    by_answers (answer ∷ answers) = behind_answer view (prefix_of names) (answer ∷ answers) (last_of answer answers)
+
 -- a range of at least one byte, from its start to before its end
 pub record Range : Type 0 where
   pub from : ℕ
@@ -241,6 +301,7 @@ abbrev pub next_of : View → Request → Heard → Next
 next_of view (Put key content) heard = put_next key (bytes_of content) heard.answers
 next_of view Await heard = Waits
 next_of view (Stat path) heard = stat_next view (path_of path) heard
+next_of view (request.List path) heard = list_next view (path_of path) heard
 next_of view (OpenRead name path) heard = open_next open_at view view.handle (path_of path) heard
 next_of view (OpenWrite name path) heard = open_next (create_at false) view view.handle (path_of path) heard
 next_of view (OpenTruncate name path) heard = open_next (create_at view.options.allow_overwrite) view view.handle (path_of path) heard

@@ -4,7 +4,7 @@ use Rattle.std.specs.FinMap as table
 use Rattle.mp_types.specs.HandleName.{name_cmp}
 use Rattle.upload_rules.specs.Upload.{Upload}
 use Rattle.mount_model.specs.declared.handle.Handle.{Handle as HandleOf}
-use Rattle.mount_model.specs.declared.handle.Handle.TheVariants.{Reading, Writing}
+use Rattle.mount_model.specs.declared.handle.Handle.TheVariants.{Reading}
 use Rattle.mount_model.specs.declared.handle.Writer.{Writer as WriterOf}
 use Rattle.mount_model.specs.declared.request.Request.{Request}
 use Rattle.mount_model.specs.declared.request.Request.TheVariants.{OpenRead, OpenWrite, OpenTruncate, Read, Write, Sync, Close}

@@ -1,5 +1,5 @@
 -- What a line has heard of its own calls.
-use Rattle.std.specs.Prelude.{List, [], ◌∷◌, ◌++◌, Option, Some, None}
+use Rattle.std.specs.Prelude.{[], ◌∷◌, ◌++◌, Option, Some, None}
 use Rattle.mp_rules.specs.declared.facts.Question.{Question}
 use Rattle.mp_rules.specs.declared.facts.Question.TheVariants as question
 use Rattle.mp_rules.specs.declared.facts.Fact.{Fact}

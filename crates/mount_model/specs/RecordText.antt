@@ -1,10 +1,15 @@
 -- The text of a record.
-use Rattle.std.specs.Prelude.{ℕ, ◌+◌, ◌/◌, ◌%◌, List, [], ◌∷◌, ◌++◌, flat_map, Bool, not, ◌&&◌, ◌==◌, nat_le, nat_lt, if◌then◌else◌, codes, decimal}
+use Rattle.std.specs.Prelude.{ℕ, ◌+◌, ◌/◌, ◌%◌, List, [], ◌∷◌, ◌++◌, length, flat_map, Bool, not, ◌&&◌, ◌==◌, nat_le, nat_lt, if◌then◌else◌, codes, decimal}
 use Rattle.hex.specs.Hex.{encode_lower}
 use Rattle.mp_types.specs.declared.errno.Errno.{Errno}
 use Rattle.mp_types.specs.declared.errno.Errno.TheVariants.{Eperm, Enoent, Eio, Ebadf, Enomem, Eexist, Enotdir, Eisdir, Einval, Emfile, Efbig, Enametoolong, Enotempty, Eoverflow, Estale}
+use Rattle.mp_rules.specs.declared.entry.DirEntry.{DirEntry}
+use Rattle.mp_rules.specs.declared.entry.DirEntry.TheVariants as entry
 use Rattle.bucket_model.specs.declared.answer.Brief.{Brief}
 use Rattle.bucket_model.specs.declared.answer.Brief.TheVariants as answer
+use Rattle.bucket_model.specs.declared.page.Page.{Page}
+use Rattle.bucket_model.specs.declared.page.PageItem.{PageItem}
+use Rattle.bucket_model.specs.declared.page.PageItem.TheVariants as item
 use Rattle.mount_model.specs.declared.request.Reply.{Reply}
 use Rattle.mount_model.specs.declared.request.Reply.TheVariants as reply
 use Rattle.mount_model.specs.declared.event.Event.{Event}
@@ -33,11 +38,21 @@ abbrev pub escaped : List ℕ → List ℕ
 escaped [] = 37 ∷ []
 escaped (byte ∷ bytes) = escaped_byte byte ++ flat_map escaped_byte bytes
 
+-- an object with its size and its ETag, or a common prefix
+abbrev pub item_text : PageItem → List ℕ
+item_text (item.Object key etag size) = codes " o:" ++ (decimal size ++ (codes ":" ++ (etag ++ (codes ":" ++ escaped key))))
+item_text (item.Prefix text) = codes " p:" ++ escaped text
+
+-- whether there are more items behind these, how many these are, and each of them
+abbrev pub page_text : Page → List ℕ
+page_text page = (if page.more then codes "more " else codes "last ") ++ (decimal (length page.items) ++ flat_map item_text page.items)
+
 abbrev pub answer_text : Brief → List ℕ
 answer_text (answer.Found etag size) = codes "found " ++ (etag ++ (codes " " ++ decimal size))
 answer_text answer.Missing = codes "missing"
 answer_text answer.Yes = codes "yes"
 answer_text answer.No = codes "no"
+answer_text (answer.Page page) = codes "page " ++ page_text page
 answer_text (answer.Bytes count) = codes "bytes " ++ decimal count
 answer_text answer.Changed = codes "changed"
 answer_text answer.Gone = codes "gone"
@@ -64,6 +79,7 @@ owner_text (owner.Writer number) = codes "W" ++ decimal number
 abbrev pub call_text : AskedCall → List ℕ
 call_text (asked.Head key) = codes "head " ++ escaped key
 call_text (asked.Probe key) = codes "probe " ++ escaped key
+call_text (asked.List prefix after max) = codes "list " ++ (escaped prefix ++ (codes " " ++ (escaped after ++ (codes " " ++ decimal max))))
 call_text (asked.Get key etag from to) = codes "get " ++ (escaped key ++ (codes " " ++ (etag ++ (codes " " ++ (decimal from ++ (codes " " ++ decimal to))))))
 call_text (asked.Delete key) = codes "delete " ++ escaped key
 call_text (asked.Put key size) = codes "put " ++ (escaped key ++ (codes " " ++ decimal size))
@@ -92,12 +108,19 @@ errno_text Enotempty = codes "ENOTEMPTY"
 errno_text Eoverflow = codes "EOVERFLOW"
 errno_text Estale = codes "ESTALE"
 
+-- an entry of a listing, behind a space
+abbrev pub entry_text : DirEntry → List ℕ
+entry_text (entry.Dir name) = codes " d:" ++ escaped name
+entry_text (entry.Remote size name) = codes " f:" ++ (decimal size ++ (codes ":" ++ escaped name))
+entry_text (entry.Writing size name) = codes " w:" ++ (decimal size ++ (codes ":" ++ escaped name))
+
 abbrev pub said_text : Reply → List ℕ
 said_text (reply.Made etag) = codes "made " ++ etag
 said_text reply.Success = codes "ok"
 said_text reply.Directory = codes "dir"
 said_text (reply.File size) = codes "file " ++ decimal size
 said_text (reply.Writing size) = codes "writing " ++ decimal size
+said_text (reply.Listed entries) = codes "list " ++ (decimal (length entries) ++ flat_map entry_text entries)
 said_text (reply.Open size) = codes "open " ++ decimal size
 said_text (reply.Wrote length) = codes "wrote " ++ decimal length
 said_text (reply.Data bytes) = codes "data x" ++ encode_lower bytes

@@ -1,5 +1,5 @@
 -- Legal steps, and runs.
-use Rattle.std.specs.Prelude.{◌≡◌, ℕ, ◌+◌, ◌<◌, ◌≤◌, List, [], ◌∷◌, ◌++◌, length, Bool, true, false, ◌==◌, if◌then◌else◌, Option, Some, None, ◌⊎◌}
+use Rattle.std.specs.Prelude.{◌≡◌, ℕ, ◌+◌, ◌<◌, ◌≤◌, List, [], ◌∷◌, ◌++◌, length, Bool, true, false, ◌==◌, if◌then◌else◌, Some, ◌⊎◌}
 use Rattle.std.specs.List.{list_any, AllByRecursion}
 use Rattle.mp_types.specs.declared.errno.Errno.TheVariants.{Enomem}
 use Rattle.mp_types.specs.declared.options.Opts.{Opts}
@@ -29,7 +29,7 @@ use Rattle.mount_model.specs.declared.standing.Standing.{Standing}
 use Rattle.mount_model.specs.Step.{Step}
 use Rattle.mount_model.specs.Handles.{Writer}
 use Rattle.mount_model.specs.Writers.{Asking, answer_to, first_asks, has_failed}
-use Rattle.mount_model.specs.Conversation.{Next, Asks, Replies, Makes, Removes, Opens, Creates, Gives, Writes, Ends, Waits}
+use Rattle.mount_model.specs.Conversation.{Next, Asks, Replies, Makes, Removes, Opens, Creates, Lists, Gives, Writes, Ends, Waits}
 use Rattle.mount_model.specs.State.{ClientState, Job, JobPhase, Ready, Out, Gone, Turn, TurnOf, TurnOfWriter, NoTurn, opening, after, state_after, job_at, jobs_at, lines_at, with_replies, ready_for, turn_at, calls_in, gives_up, behind_asks, behind_drops, behind_step, askings_of, calls_of, jobs_made}
 
 -- which lines may begin
@@ -84,6 +84,7 @@ MayCome state (Done job position answer) = MayDone state job position answer
 abbrev pub asked_of : Call → AskedCall
 asked_of (call.Head key) = asked.Head key
 asked_of (call.Probe key) = asked.Probe key
+asked_of (call.List prefix after max) = asked.List prefix after max
 asked_of (call.Get key etag from to) = asked.Get key etag from to
 asked_of (call.Delete key) = asked.Delete key
 asked_of (call.Put key bytes) = asked.Put key (length bytes)
@@ -98,7 +99,7 @@ AsksFor job owner called step own = (step.asks ≡ record { job = job; owner = o
 abbrev pub Says : ℕ → Reply → Step → List Answered → Type 0
 Says line said step own = (step.asks ≡ []) × (own ≡ record { line = line; reply = said } ∷ []) × (step.drops ≡ [])
 
--- where a call is due, or a handle or a directory, or room for what is written, and there is no memory for it, the line is answered so
+-- where a call is due, or a handle, a directory or what a listing shows, or room for what is written, and there is no memory for it, the line is answered so
 abbrev pub LacksMemory : ℕ → Step → List Answered → Type 0
 LacksMemory line step own = Says line (reply.Failed Enomem) step own
 
@@ -133,6 +134,7 @@ TakesTurnOfLine state step line owner (Makes key) own = Says line.number reply.S
 TakesTurnOfLine state step line owner (Removes key) own = Says line.number reply.Success step own
 TakesTurnOfLine state step line owner (Opens version) own = Says line.number (reply.Open version.size) step own ⊎ LacksMemory line.number step own
 TakesTurnOfLine state step line owner (Creates key) own = Says line.number (reply.Open 0) step own ⊎ LacksMemory line.number step own
+TakesTurnOfLine state step line owner (Lists entries) own = Says line.number (reply.Listed entries) step own ⊎ LacksMemory line.number step own
 TakesTurnOfLine state step line owner (Gives count) own = SaysData line.number count step own
 TakesTurnOfLine state step line owner (Writes count writer) own =
     ((answers : List Answered) × TakesTurnOfWriter state step writer answers × (own ≡ record { line = line.number; reply = reply.Wrote count } ∷ answers))

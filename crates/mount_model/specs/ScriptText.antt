@@ -13,6 +13,7 @@ use Rattle.mount_model.specs.declared.fault.ScriptCause.TheVariants as cause
 use Rattle.mount_model.specs.declared.fault.What.{What}
 use Rattle.mount_model.specs.declared.fault.What.TheVariants.{Lines, Reads, Data as Stored}
 use Rattle.mount_model.specs.declared.request.Request.{Request}
+use Rattle.mount_model.specs.declared.request.Request.TheVariants as request
 use Rattle.mount_model.specs.declared.request.Request.TheVariants.{Put, Await, Stat, OpenRead, OpenWrite, OpenTruncate, Read, Write, Sync, Close, Delete, MakeDir, RemoveDir, Unlink}
 use Rattle.mount_model.specs.declared.request.Line.{Line}
 use Rattle.mount_model.specs.RecordText.{is_plain}
@@ -194,6 +195,11 @@ stat_of words = do
   p ← path_words words
   Ok (Stat p)
 
+abbrev pub list_of : List (List ℕ) → Result Request ScriptCause
+list_of words = do
+  p ← path_words words
+  Ok (request.List p)
+
 abbrev pub make_of : List (List ℕ) → Result Request ScriptCause
 make_of words = do
   p ← path_words words
@@ -226,6 +232,7 @@ change_of verb words =
 abbrev pub asked_by_process : List ℕ → List (List ℕ) → Result Request ScriptCause
 asked_by_process verb words =
     if is_word verb (codes "stat") then stat_of words
+    else (if is_word verb (codes "list") then list_of words
     else (if is_word verb (codes "openr") then open_of OpenRead words
     else (if is_word verb (codes "openw") then open_of OpenWrite words
     else (if is_word verb (codes "opent") then open_of OpenTruncate words
@@ -235,7 +242,7 @@ asked_by_process verb words =
     else (if is_word verb (codes "close") then handle_only Close words
     else (if is_word verb (codes "mkdir") then make_of words
     else (if is_word verb (codes "rmdir") then remove_of words
-    else (if is_word verb (codes "unlink") then unlink_of words else Err cause.Verb))))))))))
+    else (if is_word verb (codes "unlink") then unlink_of words else Err cause.Verb)))))))))))
 
 -- processes ask, the others change the bucket, and all may wait
 abbrev pub request_of : ℕ → List ℕ → List (List ℕ) → Result Request ScriptCause

@@ -34,7 +34,7 @@ use Rattle.mount_model.specs.declared.standing.Standing.{Standing}
 use Rattle.mount_model.specs.declared.standing.Told.{Told}
 use Rattle.mount_model.specs.Step.{Step}
 use Rattle.mount_model.specs.Heard.{nothing_heard, with_told, question_of, told_by}
-use Rattle.mount_model.specs.Conversation.{Next, Asks, Replies, Makes, Removes, Opens, Creates, Gives, Writes, Ends, Waits, View, next_of, with_upload}
+use Rattle.mount_model.specs.Conversation.{Next, Asks, Replies, Makes, Removes, Opens, Creates, Writes, Ends, Waits, View, next_of, with_upload}
 use Rattle.mount_model.specs.Handles.{Handles, Handle, Writer, name_in, handle_of, owner_for}
 use Rattle.mount_model.specs.Writers.{Asking, asking_for, ask_times, first_asks, hears_answer, is_under_way, settled, back_times, answer_to}
 

@@ -1,12 +1,12 @@
 -- Which objects writers make: each whole, of all the bytes that its writer accepted.
-use Rattle.std.specs.Prelude.{◌≡◌, ℕ, ◌<◌, ◌≤◌, List, [], ◌∷◌, ◌++◌, take, Contains, slice_get, Bool, true, false, ◌&&◌, ◌==◌, if◌then◌else◌, Option, Some, None}
+use Rattle.std.specs.Prelude.{◌≡◌, ℕ, ◌<◌, ◌≤◌, List, [], ◌∷◌, ◌++◌, take, Contains, slice_get, Bool, true, false, ◌&&◌, ◌==◌, if◌then◌else◌, Option, Some}
 use Rattle.std.specs.List.{AllByRecursion}
 use Rattle.mp_types.specs.declared.options.Opts.{Opts}
 use Rattle.mp_types.specs.Content.{bytes_of}
 use Rattle.bucket_model.specs.declared.call.Call.{Call}
 use Rattle.bucket_model.specs.declared.call.Call.TheVariants as call
 use Rattle.bucket_model.specs.declared.history.Logged.{Logged}
-use Rattle.bucket_model.specs.Bucket.{ObjectVersion, version_made}
+use Rattle.bucket_model.specs.Bucket.{version_made}
 use Rattle.bucket_model.specs.History.{replay}
 use Rattle.mount_model.specs.declared.handle.Handle.TheVariants.{Writing}
 use Rattle.mount_model.specs.declared.request.Request.{Request}
@@ -16,10 +16,9 @@ use Rattle.mount_model.specs.declared.request.Reply.TheVariants as reply
 use Rattle.mount_model.specs.declared.request.Line.{Line}
 use Rattle.mount_model.specs.declared.event.Event.{Event}
 use Rattle.mount_model.specs.declared.event.Event.TheVariants.{Take}
-use Rattle.mount_model.specs.declared.event.Answered.{Answered}
 use Rattle.mount_model.specs.Step.{Step}
-use Rattle.mount_model.specs.Conversation.{Next, Writes}
-use Rattle.mount_model.specs.Handles.{Handle, Writer, handle_of}
+use Rattle.mount_model.specs.Conversation.{Writes}
+use Rattle.mount_model.specs.Handles.{Writer, handle_of}
 use Rattle.mount_model.specs.State.{ClientState, Turn, TurnOf, opening, after, state_after, turn_at, reply_in}
 
 abbrev pub content_in : Request → List ℕ

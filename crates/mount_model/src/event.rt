@@ -1,6 +1,6 @@
 use crate::Reply;
 use bucket_model::Brief;
-use mp_types::{ETag, Key};
+use mp_types::{ETag, Key, Text};
 
 /// What one step of the mount begins with.
 #[derive(Debug, Drop)]
@@ -43,6 +43,12 @@ pub enum AskedCall {
     },
     Probe {
         key: Key,
+    },
+    /// A page of at most `max` items of the prefix, from behind `after` on.
+    List {
+        prefix: Text,
+        after: Text,
+        max: u32,
     },
     Get {
         key: Key,

@@ -1,4 +1,5 @@
 use bytes::Bytes;
+use mp_rules::DirEntry;
 use mp_types::{Data, ETag, Errno, Items, Key, Text};
 
 /// What one line of a script asks for.
@@ -13,6 +14,10 @@ pub enum Request {
     Await,
     /// Asks what stands at a path.
     Stat {
+        path: Text,
+    },
+    /// Asks what stands in the directory at a path.
+    List {
         path: Text,
     },
     /// Opens the object at a path for reading, under a name of the process's own.
@@ -81,6 +86,8 @@ pub enum Reply {
     File { size: u64 },
     /// A file that is being written stands there, with so many bytes so far.
     Writing { size: u64 },
+    /// What stands in a directory, in the order of a listing.
+    Listed(Items<DirEntry>),
     /// A handle on a file of this many bytes.
     Open { size: u64 },
     /// So many bytes were written.

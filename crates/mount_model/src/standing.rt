@@ -79,7 +79,8 @@ fn fact_of(answer: &Brief) -> Option<Fact>
         Brief::Missing => Some(Fact::Missing),
         Brief::Yes => Some(Fact::Yes),
         Brief::No => Some(Fact::No),
-        Brief::Bytes { .. }
+        Brief::Page(_)
+        | Brief::Bytes { .. }
         | Brief::Changed
         | Brief::Gone
         | Brief::Made(_)
@@ -111,7 +112,8 @@ pub fn question_of(alloc: Global, call: &Call) -> Result<Option<Question>, Alloc
     match call {
         Call::Head { key } => Ok(Some(Question::Head(key.copy(alloc)?))),
         Call::Probe { key } => Ok(Some(Question::Probe(key.copy(alloc)?))),
-        Call::Get { .. }
+        Call::List { .. }
+        | Call::Get { .. }
         | Call::Delete { .. }
         | Call::Put { .. }
         | Call::Create { .. }

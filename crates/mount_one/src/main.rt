@@ -9,6 +9,8 @@ ghost use Rattle.mount_one.specs.Statuses.{IsUnread};
 
 #[cfg(test)]
 mod dir_tests;
+#[cfg(test)]
+mod list_tests;
 mod message;
 #[cfg(test)]
 mod path_tests;

@@ -7,7 +7,12 @@ use std::process::Abort;
 use std::test::Fail;
 
 // Serves a script over an empty bucket, and compares its replies.
-fn assert_served(rt: &impl Abort, alloc: Global, script: &str, expected: &str) -> Result<(), Fail> {
+pub(crate) fn assert_served(
+    rt: &impl Abort,
+    alloc: Global,
+    script: &str,
+    expected: &str,
+) -> Result<(), Fail> {
     assert_replies(rt, alloc, script, &mut MemStore::new(alloc)?, expected)
 }
 

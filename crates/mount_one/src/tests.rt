@@ -147,7 +147,7 @@ pub fn source_of(alloc: Global, text: &str) -> Result<MemSource, Fail> {
 }
 
 pub fn roomy_sink(alloc: Global) -> Result<MemSink, Fail> {
-    Ok(MemSink::new(alloc, 1_048_576, 4096, Vec::new(alloc))?)
+    Ok(MemSink::new(alloc, 4_194_304, 4096, Vec::new(alloc))?)
 }
 
 #[test]

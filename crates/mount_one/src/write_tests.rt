@@ -22,14 +22,14 @@ fn parts_of(part: u64) -> Opts
 }
 
 // An empty bucket in which the call of this number fails.
-fn failing(alloc: Global, call: u64, when: When) -> Result<Faulty<MemStore>, Fail> {
+pub(crate) fn failing(alloc: Global, call: u64, when: When) -> Result<Faulty<MemStore>, Fail> {
     let mut faults = Vec::new(alloc);
     faults.push((call, when))?;
     Ok(Faulty::new(alloc, MemStore::new(alloc)?, faults)?)
 }
 
 // Serves a script over this store with these options, and compares the whole record.
-fn assert_record<T: Store>(
+pub(crate) fn assert_record<T: Store>(
     rt: &impl Abort,
     alloc: Global,
     options: Opts,

@@ -38,6 +38,7 @@ walks plan view names heard there means = subst (MeansOne plan) (sym (by_answers
     by_answers (brief.Missing ∷ answers) there = refl
     by_answers (brief.Yes ∷ answers) there = refl
     by_answers (brief.No ∷ answers) there = refl
+    by_answers (brief.Page page ∷ answers) there = refl
     by_answers (brief.Bytes count ∷ answers) there = refl
     by_answers (brief.Changed ∷ answers) there = refl
     by_answers (brief.Gone ∷ answers) there = absurd (cc)

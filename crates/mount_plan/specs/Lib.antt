@@ -4,3 +4,4 @@ pub mod Looked
 pub mod Meant
 pub mod Opened
 pub mod Seen
+pub mod Unkept

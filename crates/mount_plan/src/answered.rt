@@ -1,7 +1,7 @@
 ghost use Rattle.std.specs.Prelude.{◌≡◌, option_copied, option_to_list, slice_get};
 ghost use Rattle.mount_model.specs.Conversation.{errno_of};
 ghost use Rattle.mount_plan.specs.Meant.{with_last};
-ghost use Rattle.mount_plan.specs.Last.{last_answer, last_fact};
+ghost use Rattle.mount_plan.specs.Last.{last_answer, last_fact, last_in};
 
 use bucket_model::Brief;
 use mount_model::{Heard, Told};
@@ -25,6 +25,16 @@ fn last_answer(last: Option<&Told>) -> Option<&Brief>
     match last {
         Some(Told::Answer(answer)) => Some(answer),
         _ => None,
+    }
+}
+
+/// The last answer of all that told no fact.
+pub fn newest_answer<'a>(heard: &'a Heard, last: Option<&'a Told>) -> Option<&'a Brief>
+    ensures { option_copied result ≡ last_in (with_last (option_copied last.entry) heard.now).answers }
+{
+    match last_answer(last) {
+        Some(answer) => Some(answer),
+        None => heard.answers.as_slice().last(),
     }
 }
 

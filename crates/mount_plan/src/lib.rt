@@ -7,6 +7,7 @@
 mod answered;
 mod close;
 mod delete;
+mod list;
 mod lookup;
 mod make;
 mod next;
@@ -21,6 +22,7 @@ mod unlink;
 mod view;
 mod write;
 
+pub use list::unkept_errno;
 pub use next::plan;
 pub use planned::{LinePlan, Plan};
 pub use view::View;

@@ -5,6 +5,7 @@ ghost use Rattle.mount_plan.specs.Seen.{view_of};
 
 use crate::close::close_plan;
 use crate::delete::delete_plan;
+use crate::list::list_plan;
 use crate::make::make_plan;
 use crate::open::{Mode, open_plan};
 use crate::put::put_plan;
@@ -22,8 +23,8 @@ use mount_model::{Heard, Request, Told};
 pub fn plan<'a>(
     view: View<'a>,
     request: &'a Request,
-    heard: &Heard,
-    last: Option<&Told>,
+    heard: &'a Heard,
+    last: Option<&'a Told>,
 ) -> Plan<'a>
     ensures means { Means result (next_of (view_of view.entry) request.now (with_last (option_copied last.entry) heard.now)) }
     ensures whose { IsFor result request.now (view_of view.entry).handle }
@@ -32,6 +33,7 @@ pub fn plan<'a>(
         Request::Put { key, content } => Plan::Line(put_plan(key, content, heard, last)),
         Request::Await => Plan::Line(LinePlan::Wait),
         Request::Stat { path } => Plan::Line(stat_plan(path.as_str(), &view, heard, last)),
+        Request::List { path } => Plan::Line(list_plan(path.as_str(), &view, heard, last)),
         Request::OpenRead { path, .. } => Plan::Line(open_plan(
             path.as_str(),
             Mode::Read,

@@ -1,6 +1,7 @@
 ghost use Rattle.std.specs.Prelude.{◌≡◌};
 
-use mount_model::{Reply, Version, Writer};
+use local_names::Locals;
+use mount_model::{Heard, Reply, Told, Version, Writer};
 use mp_types::{Data, ETag, Errno, Key};
 use part_uploader::Uploader;
 
@@ -33,6 +34,12 @@ pub enum LinePlan<'a> {
     Probe(&'a str),
     /// It asks whether a file stands at this key, of 1 to 1,024 bytes.
     Head(&'a str),
+    /// It asks for a page of at most `max` items of the directory at this path, which has no fault, behind a text.
+    Page {
+        path: &'a str,
+        after: &'a str,
+        max: u32,
+    },
     /// It asks for the bytes `from..to` of this version. `from` is less than `to`.
     Get {
         version: &'a Version,
@@ -63,6 +70,14 @@ pub enum LinePlan<'a> {
     /// It opens its handle on a new file at the key, of 1 to 1,024 bytes.
     Create {
         key: &'a str,
+    },
+    /// It gives the names in the directory at this path, which has no fault: those that the pages among its answers
+    /// show, and the mount's own.
+    List {
+        path: &'a str,
+        heard: &'a Heard,
+        last: Option<&'a Told>,
+        names: &'a Locals,
     },
     /// It gives the bytes of its last answer, `count` of them. No bytes may also come without any call.
     Give {

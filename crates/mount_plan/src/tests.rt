@@ -1,9 +1,9 @@
 use super::*;
-use bucket_model::Brief;
+use bucket_model::{Brief, Page, PageItem};
 use local_names::Locals;
 use mount_model::{Handle, Heard, Reply, Request, Told, Version};
 use mp_rules::{Fact, Known, Question};
-use mp_types::{Data, ETag, Errno, Key, MAX_HANDLES, Opts, Text};
+use mp_types::{Data, ETag, Errno, Key, MAX_HANDLES, Opts, Shared, Text};
 use part_uploader::Uploader;
 use std::alloc::Global;
 use std::test::*;
@@ -17,6 +17,11 @@ fn sees(names: &Locals) -> View<'_> {
         live: 0,
         names,
     }
+}
+
+// What it does next, where no last answer stands apart.
+fn goes_by<'a>(names: &'a Locals, request: &'a Request, heard: &'a Heard) -> Plan<'a> {
+    plan(sees(names), request, heard, None)
 }
 
 // What it sees where its handle is live.
@@ -96,6 +101,12 @@ fn unlink(alloc: Global, path: &str) -> Result<Request, Fail> {
     })
 }
 
+fn list(alloc: Global, path: &str) -> Result<Request, Fail> {
+    Ok(Request::List {
+        path: Text::copy(alloc, path)?,
+    })
+}
+
 fn read(offset: u64, count: u64) -> Request {
     Request::Read {
         handle: 3,
@@ -141,6 +152,16 @@ fn found(alloc: Global, key: &str, size: u64) -> Result<Told, Fail> {
     )
 }
 
+// A page with one directory.
+fn page(alloc: Global, text: &str, more: bool) -> Result<Told, Fail> {
+    let mut items = Vec::new(alloc);
+    items.push(PageItem::Prefix(Text::copy(alloc, text)?))?;
+    Ok(Told::Answer(Brief::Page(Page {
+        items: Shared::from_vec(items)?,
+        more,
+    })))
+}
+
 // What the bucket said of `a`, with no key below it.
 fn bare(alloc: Global) -> Result<Heard, Fail> {
     let mut heard = Heard::new(alloc);
@@ -158,6 +179,14 @@ fn asks_probe(plan: Plan, key: &str) -> bool {
 
 fn asks_head(plan: Plan, key: &str) -> bool {
     matches!(plan, Plan::Line(LinePlan::Head(asked)) if asked == key)
+}
+
+fn asks_page(plan: Plan, of: &str, behind: &str) -> bool {
+    matches!(plan, Plan::Line(LinePlan::Page { path, after, .. }) if path == of && after == behind)
+}
+
+fn lists(plan: Plan, of: &str) -> bool {
+    matches!(plan, Plan::Line(LinePlan::List { path, .. }) if path == of)
 }
 
 fn opens(plan: Plan, path: &str, bytes: u64) -> bool {
@@ -183,8 +212,8 @@ fn a_stat_tells_what_stands_there(rt: HostRuntime) -> Result<(), Fail> {
     let nothing = Heard::new(rt.alloc());
     let heard = bare(rt.alloc())?;
     let file = found(rt.alloc(), "a", 5)?;
-    assert!(rt; asks_probe(plan(sees(&names), &request, &nothing, None), "a"));
-    assert!(rt; asks_head(plan(sees(&names), &request, &heard, None), "a"));
+    assert!(rt; asks_probe(goes_by(&names, &request, &nothing), "a"));
+    assert!(rt; asks_head(goes_by(&names, &request, &heard), "a"));
     assert!(rt; has_size(plan(sees(&names), &request, &heard, Some(&file)), 5));
     Ok(())
 }
@@ -335,5 +364,46 @@ fn a_reader_takes_no_bytes(rt: HostRuntime) -> Result<(), Fail> {
             Errno::Ebadf
         )
     );
+    Ok(())
+}
+
+#[test]
+fn a_directory_is_listed_page_by_page(rt: HostRuntime) -> Result<(), Fail> {
+    let names = Locals::new(rt.alloc());
+    let request = list(rt.alloc(), "/")?;
+    let nothing = Heard::new(rt.alloc());
+    let first = page(rt.alloc(), "a/", true)?;
+    let end = page(rt.alloc(), "b/", false)?;
+    let mut heard = Heard::new(rt.alloc());
+    heard.hear(page(rt.alloc(), "a/", true)?)?;
+    assert!(rt; asks_page(plan(sees(&names), &request, &nothing, None), "/", ""));
+    assert!(rt;
+        asks_page(
+            plan(sees(&names), &request, &nothing, Some(&first)),
+            "/",
+            "a/"
+        )
+    );
+    assert!(rt; asks_page(plan(sees(&names), &request, &heard, None), "/", "a/"));
+    assert!(rt; lists(plan(sees(&names), &request, &heard, Some(&end)), "/"));
+    Ok(())
+}
+
+#[test]
+fn only_a_directory_is_listed(rt: HostRuntime) -> Result<(), Fail> {
+    let names = Locals::new(rt.alloc());
+    let below = made(rt.alloc(), "a")?;
+    let request = list(rt.alloc(), "/a")?;
+    let nothing = Heard::new(rt.alloc());
+    let heard = bare(rt.alloc())?;
+    let file = found(rt.alloc(), "a", 5)?;
+    assert!(rt; asks_probe(goes_by(&names, &request, &nothing), "a"));
+    assert!(rt;
+        fails(
+            plan(sees(&names), &request, &heard, Some(&file)),
+            Errno::Enotdir
+        )
+    );
+    assert!(rt; asks_page(goes_by(&below, &request, &heard), "/a", ""));
     Ok(())
 }

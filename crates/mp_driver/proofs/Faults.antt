@@ -4,7 +4,7 @@ use Rattle.std.proofs.lemmas.Bool.{cases_lt}
 use Rattle.std.proofs.lemmas.List.Sums.{sum_by_push}
 use Rattle.mp_types.specs.Count.{HasRisen}
 use Rattle.bucket_model.specs.declared.answer.Brief.{Brief}
-use Rattle.bucket_model.specs.declared.answer.Brief.TheVariants.{Found, Missing, Yes, No, Bytes, Changed, Gone, Made, Upload, Stored, NoUpload, Fault, NoMemory}
+use Rattle.bucket_model.specs.declared.answer.Brief.TheVariants.{Found, Missing, Yes, No, Page, Bytes, Changed, Gone, Made, Upload, Stored, NoUpload, Fault, NoMemory}
 use Rattle.bucket_model.specs.Answers.{brief_of}
 use Rattle.bucket_model.specs.History.{History}
 use Rattle.mount_model.specs.declared.event.Event.{Event}
@@ -35,6 +35,7 @@ fault-is (Found etag size) is = absurd (cc)
 fault-is Missing is = absurd (cc)
 fault-is Yes is = absurd (cc)
 fault-is No is = absurd (cc)
+fault-is (Page page) is = absurd (cc)
 fault-is (Bytes count) is = absurd (cc)
 fault-is Changed is = absurd (cc)
 fault-is Gone is = absurd (cc)

@@ -6,7 +6,7 @@ use Rattle.bucket_model.specs.declared.call.Call.{Call}
 use Rattle.mount_model.specs.declared.event.Ask.{Ask}
 use Rattle.mount_model.specs.declared.request.Line.{Line}
 use Rattle.mount_model.specs.Step.{Step}
-use Rattle.mount_model.specs.Conversation.{Next, Asks, Replies, Makes, Removes, Opens, Creates, Gives, Writes, Ends, Waits}
+use Rattle.mount_model.specs.Conversation.{Next, Asks, Replies, Makes, Removes, Opens, Creates, Lists, Gives, Writes, Ends, Waits}
 use Rattle.mount_model.specs.State.{Job, JobPhase, Ready, Out, Gone, Turn, TurnOf, TurnOfWriter, NoTurn, job_at, jobs_at, jobs_after, change_job, in_phase, jobs_made, jobs_asked, jobs_of_line, calls_of, askings_of}
 use Rattle.mount_model.specs.Run.{is_among, ready}
 use Rattle.run_laws.proofs.Keyed.{change_at-same, change_at-other, all-append}
@@ -107,6 +107,7 @@ known-line held step line (Replies said) = tt
 known-line held step line (Makes key) = tt
 known-line held step line (Removes key) = tt
 known-line held step line (Opens version) = tt
+known-line held step line (Lists entries) = tt
 known-line held step line (Creates key) = tt
 known-line held step line (Gives count) = tt
 known-line held step line Waits = tt

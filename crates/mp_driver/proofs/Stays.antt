@@ -6,7 +6,7 @@ use Rattle.mount_model.specs.declared.event.Answered.{Answered}
 use Rattle.mount_model.specs.declared.event.Owner.{Owner}
 use Rattle.mount_model.specs.declared.request.Line.{Line}
 use Rattle.mount_model.specs.Step.{Step}
-use Rattle.mount_model.specs.Conversation.{Next, Asks, Replies, Makes, Removes, Opens, Creates, Gives, Writes, Ends, Waits}
+use Rattle.mount_model.specs.Conversation.{Next, Asks, Replies, Makes, Removes, Opens, Creates, Lists, Gives, Writes, Ends, Waits}
 use Rattle.mount_model.specs.Handles.{Writer}
 use Rattle.mount_model.specs.Writers.{Asking, first_asks, has_failed, asking_for}
 use Rattle.upload_rules.specs.declared.upload.UpAsk.TheVariants.{Abort}
@@ -47,6 +47,8 @@ line-drops state step line who (Makes key) own (inr lacks) = NoDrops lacks.2
 line-drops state step line who (Removes key) own says = NoDrops says.2
 line-drops state step line who (Opens version) own (inl says) = NoDrops says.2
 line-drops state step line who (Opens version) own (inr lacks) = NoDrops lacks.2
+line-drops state step line who (Lists entries) own (inl says) = NoDrops says.2
+line-drops state step line who (Lists entries) own (inr lacks) = NoDrops lacks.2
 line-drops state step line who (Creates key) own (inl says) = NoDrops says.2
 line-drops state step line who (Creates key) own (inr lacks) = NoDrops lacks.2
 line-drops state step line who (Gives count) own gives = NoDrops gives.2.2

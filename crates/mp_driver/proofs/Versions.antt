@@ -45,6 +45,7 @@ module _ (versions more : List ObjectVersion) where
   IsSlice-more (call.Get key etag from to) answer.Missing is = tt
   IsSlice-more (call.Get key etag from to) answer.Yes is = tt
   IsSlice-more (call.Get key etag from to) answer.No is = tt
+  IsSlice-more (call.Get key etag from to) (answer.Page page) is = tt
   IsSlice-more (call.Get key etag from to) answer.Changed is = tt
   IsSlice-more (call.Get key etag from to) answer.Gone is = tt
   IsSlice-more (call.Get key etag from to) (answer.Made made) is = tt
@@ -55,6 +56,7 @@ module _ (versions more : List ObjectVersion) where
   IsSlice-more (call.Get key etag from to) answer.NoMemory is = tt
   IsSlice-more (call.Head key) said is = tt
   IsSlice-more (call.Probe key) said is = tt
+  IsSlice-more (call.List prefix after max) said is = tt
   IsSlice-more (call.Delete key) said is = tt
   IsSlice-more (call.Put key bytes) said is = tt
   IsSlice-more (call.Create key) said is = tt
@@ -83,6 +85,7 @@ module _ (versions more : List ObjectVersion) where
   data-more (request.Delete key) handle bytes is = is
   data-more (request.MakeDir path) handle bytes is = is
   data-more (request.RemoveDir path) handle bytes is = is
+  data-more (request.List path) handle bytes is = is
   data-more (request.Unlink path) handle bytes is = is
   data-more (request.OpenWrite name path) handle bytes is = is
   data-more (request.OpenTruncate name path) handle bytes is = is
@@ -105,6 +108,7 @@ module _ (versions more : List ObjectVersion) where
       by_reply line (reply.Open size) is = tt
       by_reply line reply.Gone is = tt
       by_reply line (reply.Failed errno) is = tt
+      by_reply line (reply.Listed entries) is = tt
       by_reply line (reply.Writing size) is = tt
       by_reply line (reply.Wrote length) is = tt
 

@@ -3,7 +3,7 @@ ghost use Rattle.mp_driver.specs.Held.{AreByJob, IsWith, answer_for};
 
 use bucket_model::Answer;
 
-// The answer of a call that was made, which waits to be handed in.
+/// The answer of a call that was made, which waits to be handed in.
 #[derive(Drop)]
 pub struct HeldAnswer {
     pub job: u64,
@@ -11,7 +11,7 @@ pub struct HeldAnswer {
     pub answer: Answer,
 }
 
-// Puts an answer at its place by its job, for which there is room.
+/// Puts an answer at its place by its job, for which there is room.
 pub fn hold(held: &mut Vec<HeldAnswer>, got: HeldAnswer)
     requires room { vec_len held.old < vec_capacity held.old }
     requires by_job { AreByJob held.old.items }
@@ -26,7 +26,7 @@ pub fn hold(held: &mut Vec<HeldAnswer>, got: HeldAnswer)
     }
 }
 
-// Takes out the answer at this place.
+/// Takes out the answer at this place.
 pub fn let_go(held: &mut Vec<HeldAnswer>, place: usize) -> HeldAnswer
     requires within { place < length held.old.items }
     requires by_job { AreByJob held.old.items }

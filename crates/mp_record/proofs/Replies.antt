@@ -36,6 +36,7 @@ said_whole reply.Success = refl
 said_whole reply.Directory = refl
 said_whole (reply.File size) = append-nil _
 said_whole (reply.Writing size) = append-nil _
+said_whole (reply.Listed entries) = append-nil _
 said_whole (reply.Open size) = append-nil _
 said_whole (reply.Wrote length) = append-nil _
 said_whole (reply.Data bytes) = refl

@@ -1,13 +1,14 @@
-ghost use Rattle.std.specs.Prelude.{◌≡◌, ◌++◌, codes, decimal, OnOk};
-ghost use Rattle.mount_model.specs.RecordText.{answer_text, event_text, drop_text, owner_text, escaped, call_text, ask_text};
+ghost use Rattle.std.specs.Prelude.{◌≡◌, ◌++◌, flat_map, codes, decimal, OnOk};
+ghost use Rattle.mount_model.specs.RecordText.{item_text, page_text, answer_text, event_text, drop_text, owner_text, escaped, call_text, ask_text};
 
 use crate::escape::push_escaped;
-use bucket_model::Brief;
+use bucket_model::{Brief, Page, PageItem};
 use itoa::Buffer;
 use mount_model::{Ask, AskedCall, Event, Owner};
-use mp_types::{ETag, Key};
+use mp_types::{ETag, Key, Text};
 use std::alloc::AllocError;
 
+/// Adds a number in decimal.
 pub fn push_number(out: &mut Vec<u8>, number: u64) -> Result<(), AllocError>
     ensures { OnOk result (out.new.items ≡ out.old.items ++ decimal number) }
 {
@@ -23,11 +24,53 @@ fn push_found(out: &mut Vec<u8>, etag: &ETag, size: u64) -> Result<(), AllocErro
     push_number(out, size)
 }
 
+/// Adds the answer of a PutObject that made an object with this entity tag.
 pub fn push_made(out: &mut Vec<u8>, etag: &ETag) -> Result<(), AllocError>
     ensures { OnOk result (out.new.items ≡ out.old.items ++ (codes "made " ++ etag.now)) }
 {
     out.extend_from_slice(b"made ")?;
     out.extend_from_slice(etag.as_bytes())
+}
+
+fn push_object(out: &mut Vec<u8>, key: &Key, etag: &ETag, size: u64) -> Result<(), AllocError>
+    ensures { OnOk result (out.new.items ≡ out.old.items ++ item_text (PageItem.Object key.now etag.now size)) }
+{
+    out.extend_from_slice(b" o:")?;
+    push_number(out, size)?;
+    out.extend_from_slice(b":")?;
+    out.extend_from_slice(etag.as_bytes())?;
+    out.extend_from_slice(b":")?;
+    push_key(out, key)
+}
+
+fn push_page_item(out: &mut Vec<u8>, item: &PageItem) -> Result<(), AllocError>
+    ensures { OnOk result (out.new.items ≡ out.old.items ++ item_text item.now) }
+{
+    match item {
+        PageItem::Object { key, etag, size } => push_object(out, key, etag, *size),
+        PageItem::Prefix(prefix) => {
+            out.extend_from_slice(b" p:")?;
+            push_text(out, prefix)
+        }
+    }
+}
+
+fn push_page_items(out: &mut Vec<u8>, items: &[PageItem]) -> Result<(), AllocError>
+    ensures { OnOk result (out.new.items ≡ out.old.items ++ flat_map item_text items.now) }
+{
+    for item in items {
+        push_page_item(out, item)?;
+    }
+    Ok(())
+}
+
+fn push_page(out: &mut Vec<u8>, page: &Page) -> Result<(), AllocError>
+    ensures { OnOk result (out.new.items ≡ out.old.items ++ page_text page.now) }
+{
+    let items = page.items.as_slice();
+    out.extend_from_slice(if page.more { b"more " } else { b"last " })?;
+    push_number(out, items.len() as u64)?;
+    push_page_items(out, items)
 }
 
 fn push_answer(out: &mut Vec<u8>, answer: &Brief) -> Result<(), AllocError>
@@ -38,6 +81,10 @@ fn push_answer(out: &mut Vec<u8>, answer: &Brief) -> Result<(), AllocError>
         Brief::Missing => out.extend_from_slice(b"missing"),
         Brief::Yes => out.extend_from_slice(b"yes"),
         Brief::No => out.extend_from_slice(b"no"),
+        Brief::Page(page) => {
+            out.extend_from_slice(b"page ")?;
+            push_page(out, page)
+        }
         Brief::Bytes { length } => {
             out.extend_from_slice(b"bytes ")?;
             push_number(out, *length)
@@ -90,6 +137,7 @@ fn push_done(out: &mut Vec<u8>, job: u64, position: u64, answer: &Brief) -> Resu
     out.extend_from_slice(b"\n")
 }
 
+/// Adds an event's line.
 pub fn push_event(out: &mut Vec<u8>, event: &Event) -> Result<(), AllocError>
     ensures { OnOk result (out.new.items ≡ out.old.items ++ event_text event.now) }
 {
@@ -104,6 +152,7 @@ pub fn push_event(out: &mut Vec<u8>, event: &Event) -> Result<(), AllocError>
     }
 }
 
+/// Adds the line of a job that is no longer wanted.
 pub fn push_drop(out: &mut Vec<u8>, job: u64) -> Result<(), AllocError>
     ensures { OnOk result (out.new.items ≡ out.old.items ++ drop_text job) }
 {
@@ -131,6 +180,13 @@ fn push_owner(out: &mut Vec<u8>, owner: Owner) -> Result<(), AllocError>
     }
 }
 
+/// Adds a text as one word, with the bytes escaped that would end it.
+pub fn push_text(out: &mut Vec<u8>, text: &Text) -> Result<(), AllocError>
+    ensures { OnOk result (out.new.items ≡ out.old.items ++ escaped text.now) }
+{
+    push_escaped(out, text.as_str().as_bytes())
+}
+
 fn push_key(out: &mut Vec<u8>, key: &Key) -> Result<(), AllocError>
     ensures { OnOk result (out.new.items ≡ out.old.items ++ escaped key.now) }
 {
@@ -143,6 +199,17 @@ fn push_range(out: &mut Vec<u8>, from: u64, to: u64) -> Result<(), AllocError>
     push_number(out, from)?;
     out.extend_from_slice(b" ")?;
     push_number(out, to)
+}
+
+fn push_list(out: &mut Vec<u8>, prefix: &Text, after: &Text, max: u32) -> Result<(), AllocError>
+    ensures { OnOk result (out.new.items ≡ out.old.items ++ call_text (AskedCall.List prefix.now after.now max)) }
+{
+    out.extend_from_slice(b"list ")?;
+    push_text(out, prefix)?;
+    out.extend_from_slice(b" ")?;
+    push_text(out, after)?;
+    out.extend_from_slice(b" ")?;
+    push_number(out, u64::from(max))
 }
 
 fn push_get(out: &mut Vec<u8>, key: &Key, etag: &ETag, from: u64, to: u64) -> Result<(), AllocError>
@@ -194,6 +261,7 @@ fn push_call(out: &mut Vec<u8>, call: &AskedCall) -> Result<(), AllocError>
             out.extend_from_slice(b"probe ")?;
             push_key(out, key)
         }
+        AskedCall::List { prefix, after, max } => push_list(out, prefix, after, *max),
         AskedCall::Get {
             key,
             etag,
@@ -228,6 +296,7 @@ fn push_call(out: &mut Vec<u8>, call: &AskedCall) -> Result<(), AllocError>
     }
 }
 
+/// Adds the line of a call that the mount asks for.
 pub fn push_ask(out: &mut Vec<u8>, ask: &Ask) -> Result<(), AllocError>
     ensures { OnOk result (out.new.items ≡ out.old.items ++ ask_text ask.now) }
 {

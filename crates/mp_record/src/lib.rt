@@ -3,6 +3,7 @@
 #![tactic(auto)]
 
 mod digits;
+mod entry_text;
 mod escape;
 mod item_text;
 mod kind;

@@ -193,11 +193,12 @@ pub fn print_record<K: Sink>(alloc: Global, record: &Record, sink: &mut K) -> Re
 #[cfg(test)]
 mod tests {
     use super::*;
-    use bucket_model::Brief;
+    use bucket_model::{Brief, Page, PageItem};
     use bytes::Bytes;
     use mount_model::{Ask, AskedCall, Event, Owner, Reply};
     use mp_io::MemSink;
-    use mp_types::{ETag, Errno, Key};
+    use mp_rules::DirEntry;
+    use mp_types::{ETag, Errno, Items, Key, Shared, Text};
     use std::test::Fail;
 
     #[test]
@@ -394,6 +395,91 @@ mod tests {
         assert_eq!(rt;
             sink.held(),
             b"B 1 0\nA 1 W1 create a%20b\nR 1 wrote 9\nD 1 0 upload 7\nA 2 W1 part 7 2 5 9\nD 2 1 stored\nA 3 W1 complete 7 2\nD 3 2 noupload\nR 3 writing 9\n".as_slice()
+        );
+        Ok(())
+    }
+
+    // A page of an object and of what the keys of a directory share.
+    fn page_of_two(alloc: Global) -> Result<Page, Fail> {
+        let mut items = Vec::new(alloc);
+        items.push(PageItem::Object {
+            key: Key::parse(alloc, "a b")?,
+            etag: ETag::parse("v1")?,
+            size: 4,
+        })?;
+        items.push(PageItem::Prefix(Text::copy(alloc, "d d/")?))?;
+        Ok(Page {
+            items: Shared::from_vec(items)?,
+            more: true,
+        })
+    }
+
+    // A listing of an entry of each kind.
+    fn listing_of_three(alloc: Global) -> Result<Items<DirEntry>, Fail> {
+        let mut entries = Items::new(alloc);
+        entries.push(DirEntry::Dir {
+            name: Text::copy(alloc, "d d")?,
+        })?;
+        entries.push(DirEntry::Remote {
+            size: 4,
+            name: Text::copy(alloc, "f%")?,
+        })?;
+        entries.push(DirEntry::Writing {
+            size: 0,
+            name: Text::copy(alloc, "w\u{e9}")?,
+        })?;
+        Ok(entries)
+    }
+
+    #[test]
+    fn prints_a_listing(rt: HostRuntime) -> Result<(), Fail> {
+        let mut record = Record::new(rt.alloc());
+        record.make_room(7)?;
+        record.event(Event::Begin { line: 1, time: 0 });
+        record.ask(Ask {
+            job: 1,
+            owner: Owner::Line(1),
+            call: AskedCall::List {
+                prefix: Text::copy(rt.alloc(), "")?,
+                after: Text::copy(rt.alloc(), "")?,
+                max: 1_000,
+            },
+        });
+        record.event(Event::Done {
+            job: 1,
+            position: 2,
+            answer: Brief::Page(page_of_two(rt.alloc())?),
+        });
+        record.ask(Ask {
+            job: 2,
+            owner: Owner::Line(1),
+            call: AskedCall::List {
+                prefix: Text::copy(rt.alloc(), "d d/")?,
+                after: Text::copy(rt.alloc(), "d d/%")?,
+                max: 2,
+            },
+        });
+        record.event(Event::Done {
+            job: 2,
+            position: 3,
+            answer: Brief::Page(Page {
+                items: Shared::from_vec(Vec::new(rt.alloc()))?,
+                more: false,
+            }),
+        });
+        record.reply(Answered {
+            line: 1,
+            reply: Reply::Listed(listing_of_three(rt.alloc())?),
+        });
+        record.reply(Answered {
+            line: 2,
+            reply: Reply::Listed(Items::new(rt.alloc())),
+        });
+        let mut sink = MemSink::new(rt.alloc(), 300, 7, Vec::new(rt.alloc()))?;
+        assert_eq!(rt; print_record(rt.alloc(), &record, &mut sink), Ok(()));
+        assert_eq!(rt;
+            sink.held(),
+            b"B 1 0\nA 1 L1 list % % 1000\nD 1 2 page more 2 o:4:v1:a%20b p:d%20d/\nA 2 L1 list d%20d/ d%20d/%25 2\nD 2 3 page last 0\nR 1 list 3 d:d%20d f:4:f%25 w:0:w%C3%A9\nR 2 list 0\n".as_slice()
         );
         Ok(())
     }

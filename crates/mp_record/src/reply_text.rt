@@ -2,6 +2,7 @@ ghost use Rattle.std.specs.Prelude.{◌≡◌, ◌++◌, codes, decimal, OnOk};
 ghost use Rattle.mount_model.specs.RecordText.{errno_text};
 ghost use Rattle.mp_record.specs.ItemText.{data_in, said_start, reply_start};
 
+use crate::entry_text::push_entries;
 use crate::item_text::{push_made, push_number};
 use mount_model::{Answered, Reply};
 use mp_types::Errno;
@@ -40,6 +41,7 @@ pub fn data_of(reply: &Reply) -> &[u8]
         | Reply::Directory
         | Reply::File { .. }
         | Reply::Writing { .. }
+        | Reply::Listed(_)
         | Reply::Open { .. }
         | Reply::Wrote { .. }
         | Reply::Gone
@@ -61,6 +63,10 @@ fn push_said_start(out: &mut Vec<u8>, reply: &Reply) -> Result<(), AllocError>
         Reply::Writing { size } => {
             out.extend_from_slice(b"writing ")?;
             push_number(out, *size)
+        }
+        Reply::Listed(entries) => {
+            out.extend_from_slice(b"list ")?;
+            push_entries(out, entries.as_slice())
         }
         Reply::Open { size } => {
             out.extend_from_slice(b"open ")?;

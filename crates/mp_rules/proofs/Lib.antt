@@ -1,3 +1,3 @@
 mod Begins
-mod Order
+pub mod Order
 pub mod Answered

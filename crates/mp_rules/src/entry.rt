@@ -1,7 +1,7 @@
 ghost use Rattle.std.specs.Prelude.{◌≡◌};
 ghost use Rattle.mp_rules.specs.Entry.{kind_of};
 
-use mp_types::ETag;
+use mp_types::{ETag, Text};
 
 /// What the mount itself keeps under a name, until the bucket has it.
 #[derive(Clone, Copy, Debug, PartialEq, Eq)]
@@ -34,6 +34,17 @@ pub enum Entry {
     /// An object of this ETag and this many bytes, with no key below it.
     File { etag: ETag, size: u64 },
     Nothing,
+}
+
+/// One name in a listing, and what stands there.
+#[derive(Debug, Drop, PartialEq, Eq)]
+pub enum DirEntry {
+    /// A directory of the bucket or of the mount's own.
+    Dir { name: Text },
+    /// An object, with its size in bytes.
+    Remote { size: u64, name: Text },
+    /// A file that is being written, with how many bytes it has.
+    Writing { size: u64, name: Text },
 }
 
 /// What stands at a name, by whether some key lies below it, what is kept under it, and the size of the object with

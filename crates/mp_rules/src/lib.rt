@@ -8,7 +8,7 @@ mod facts;
 mod keys;
 mod names;
 
-pub use entry::{Entry, Kind, Local, entry_of};
+pub use entry::{DirEntry, Entry, Kind, Local, entry_of};
 pub use facts::{Fact, Known, OwnFacts, Question};
 pub use keys::{below, key_of};
 pub use names::{name_order, names_are_ordered, valid_name};

@@ -4,10 +4,11 @@ use Rattle.std.specs.List.{list_any, slice_split}
 use Rattle.mount_model.specs.declared.fault.ScriptCause.{ScriptCause}
 use Rattle.mount_model.specs.declared.request.Request.{Request}
 use Rattle.mount_model.specs.declared.request.Request.TheVariants as request
-use Rattle.mount_model.specs.ScriptText.{is_number, number_of, await_of, put_of, delete_of, stat_of, open_of, read_of, write_of, handle_only, make_of, remove_of, unlink_of}
+use Rattle.mount_model.specs.ScriptText.{is_number, number_of, await_of, put_of, delete_of, stat_of, list_of, open_of, read_of, write_of, handle_only, make_of, remove_of, unlink_of}
 use Rattle.mp_script.specs.declared.request.Access.{Access}
 use Rattle.mp_script.specs.declared.request.Access.TheVariants as access
 use Rattle.mp_script.specs.declared.request.Verb.{Verb}
+use Rattle.mp_script.specs.declared.request.Verb.TheVariants as verb
 use Rattle.mp_script.specs.declared.request.Verb.TheVariants.{Await, Put, Delete, Stat, Open, Read, Write, Sync, Close, MakeDir, RemoveDir, Unlink}
 
 abbrev pub has : ℕ → List ℕ → Bool
@@ -44,6 +45,7 @@ verb_request Await words = await_of words
 verb_request Put words = put_of words
 verb_request Delete words = delete_of words
 verb_request Stat words = stat_of words
+verb_request verb.List words = list_of words
 verb_request (Open how) words = open_of (opened how) words
 verb_request Read words = read_of words
 verb_request Write words = write_of words

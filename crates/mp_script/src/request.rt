@@ -1,6 +1,6 @@
 ghost use Rattle.std.specs.Prelude.{◌≡◌, List, ℕ, [], Ok, Err, MatchResult};
 ghost use Rattle.mount_model.specs.ScriptText as script;
-ghost use Rattle.mount_model.specs.ScriptText.{change_of, asked_by_process, request_of, put_of, delete_of, path_words, stat_of, open_of, read_of, write_of, handle_only, make_of, remove_of, unlink_of, asked_of};
+ghost use Rattle.mount_model.specs.ScriptText.{change_of, asked_by_process, request_of, put_of, delete_of, path_words, stat_of, list_of, open_of, read_of, write_of, handle_only, make_of, remove_of, unlink_of, asked_of};
 ghost use Rattle.mp_script.specs.Reads.{Gives, asked};
 ghost use Rattle.mp_script.specs.Words.{words_of, opened, verb_request};
 
@@ -27,6 +27,7 @@ pub enum Verb {
     Put,
     Delete,
     Stat,
+    List,
     Open(Access),
     Read,
     Write,
@@ -56,6 +57,9 @@ fn process_verb(word: &[u8]) -> Result<Verb, ScriptCause>
 {
     if word == b"stat".as_slice() {
         return Ok(Verb::Stat);
+    }
+    if word == b"list".as_slice() {
+        return Ok(Verb::List);
     }
     if word == b"openr".as_slice() {
         return Ok(Verb::Open(Access::Read));
@@ -143,6 +147,13 @@ fn stat(alloc: Global, text: &[u8]) -> Result<Request, Fault>
 {
     let path = only_path(alloc, text)?;
     Ok(Request::Stat { path })
+}
+
+fn list(alloc: Global, text: &[u8]) -> Result<Request, Fault>
+    ensures { Gives (λ r. r) result (list_of (words_of text.now)) }
+{
+    let path = only_path(alloc, text)?;
+    Ok(Request::List { path })
 }
 
 fn make_dir(alloc: Global, text: &[u8]) -> Result<Request, Fault>
@@ -238,6 +249,7 @@ fn bare_request(verb: Verb) -> Result<Request, ScriptCause>
         Verb::Put
         | Verb::Delete
         | Verb::Stat
+        | Verb::List
         | Verb::Open(_)
         | Verb::Read
         | Verb::Write
@@ -258,6 +270,7 @@ fn request(alloc: Global, verb: Verb, text: &[u8]) -> Result<Request, Fault>
         Verb::Put => put(alloc, text),
         Verb::Delete => delete(alloc, text),
         Verb::Stat => stat(alloc, text),
+        Verb::List => list(alloc, text),
         Verb::Open(access) => open_file(alloc, access, text),
         Verb::Read => Ok(read(text)?),
         Verb::Write => write(alloc, text),

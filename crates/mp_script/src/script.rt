@@ -50,6 +50,7 @@ fn count_in(request: &Request) -> u64
         Request::Put { .. }
         | Request::Await
         | Request::Stat { .. }
+        | Request::List { .. }
         | Request::OpenRead { .. }
         | Request::OpenWrite { .. }
         | Request::OpenTruncate { .. }
@@ -71,6 +72,7 @@ fn given_in(request: &Request) -> u64
         Request::Put { content, .. } | Request::Write { content, .. } => content.len(),
         Request::Await
         | Request::Stat { .. }
+        | Request::List { .. }
         | Request::OpenRead { .. }
         | Request::OpenWrite { .. }
         | Request::OpenTruncate { .. }

@@ -110,6 +110,21 @@ fn writes_are_read(rt: HostRuntime) -> Result<(), Fail> {
 }
 
 #[test]
+fn a_listing_is_read(rt: HostRuntime) -> Result<(), Fail> {
+    let script = read_script(rt.alloc(), b"1 list /a")
+        .ok()
+        .ok_or("it is a script")?;
+    let [first] = script.as_slice() else {
+        return Err("there is one line".into());
+    };
+    let Request::List { path } = &first.request else {
+        return Err("the line is a listing".into());
+    };
+    assert_eq!(rt; path.as_str(), "/a");
+    Ok(())
+}
+
+#[test]
 fn passed_lines_keep_their_numbers(rt: HostRuntime) -> Result<(), Fail> {
     let script = read_script(rt.alloc(), b"\n# a comment \n#\n7 await\n\n8 await\n")
         .ok()
@@ -256,6 +271,20 @@ fn the_first_fault_of_a_line_is_told(rt: HostRuntime) {
         (b"0 delete".as_slice(), ScriptCause::Words),
         (b"0 delete a b".as_slice(), ScriptCause::Words),
         (b"0 delete a%2".as_slice(), ScriptCause::Escape),
+    ];
+    for (line, cause) in cases {
+        assert_eq!(rt; fault(rt.alloc(), line), bad(1, cause));
+    }
+}
+
+#[test]
+fn the_first_fault_of_a_listing_is_told(rt: HostRuntime) {
+    let cases = [
+        (b"0 list /".as_slice(), ScriptCause::Verb),
+        (b"1 list".as_slice(), ScriptCause::Words),
+        (b"1 list /a b".as_slice(), ScriptCause::Words),
+        (b"1 list /%4".as_slice(), ScriptCause::Escape),
+        (b"1 list %ff".as_slice(), ScriptCause::Utf8),
     ];
     for (line, cause) in cases {
         assert_eq!(rt; fault(rt.alloc(), line), bad(1, cause));

@@ -10,6 +10,7 @@ mod key;
 mod octets;
 mod options;
 mod path;
+mod shared;
 mod text;
 
 pub use errno::Errno;
@@ -19,7 +20,8 @@ pub use key::{Key, KeyFault};
 pub use octets::Data;
 pub use options::{MAX_HANDLES, Opts};
 pub use path::{FilePath, PathFault, below_root, is_name};
-pub use text::Text;
+pub use shared::Shared;
+pub use text::{Text, behind};
 
 /// Any bytes, seen by contracts as their list.
 pub type Octets = Items<u8>;

@@ -10,6 +10,8 @@ pub struct Opts {
     /// How many bytes each part of an upload has, but the last: 1 to 1,073,741,824. The default is 8 MiB, as
     /// Mountpoint's.
     pub part: u64,
+    /// How many items each page of a listing has at most: 1 to 1,000. The default is 1,000, the most that Amazon S3 gives.
+    pub page: u32,
     /// Whether `unlink` may delete objects. Mountpoint's default is that it may not.
     pub allow_delete: bool,
     /// Whether an object may be overwritten, by an open that truncates. Mountpoint's default is that it may not.
@@ -23,6 +25,7 @@ impl Default for Opts {
     {
         Opts {
             part: 8_388_608,
+            page: 1_000,
             allow_delete: false,
             allow_overwrite: false,
         }

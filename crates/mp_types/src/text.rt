@@ -1,4 +1,5 @@
-ghost use Rattle.std.specs.Prelude.{◌≡◌, [], IfOk, Some, refl, nat_eq, string_bytes};
+ghost use Rattle.std.specs.Prelude.{◌≡◌, ◌++◌, [], false, IfOk, MatchOption, Some, refl, nat_eq, string_bytes};
+ghost use Rattle.std.specs.List.{starts_with};
 ghost use Rattle.std.specs.Ordering.{nat_cmp};
 ghost use Rattle.std.specs.Cmp.{partial_equiv_from_equiv};
 ghost use Rattle.std.specs.Cmp.Lexicographic.{pointwise, slice_cmp, nat_list_cmp_total, nat_list_eq_equiv, texts_po, texts_ties};
@@ -91,4 +92,11 @@ impl Ord for Text {
     fn cmp(&self, other: &Text) -> Ordering {
         self.text.as_str().cmp(other.text.as_str())
     }
+}
+
+/// What stands behind the prefix, where the text begins with it.
+pub fn behind<'a>(text: &'a str, prefix: &str) -> Option<&'a str>
+    ensures { MatchOption result (starts_with nat_eq text.now prefix.now ≡ false) (λ rest. text.now ≡ prefix.now ++ rest.now) }
+{
+    text.strip_prefix(prefix)
 }

@@ -112,6 +112,7 @@ goes-hears (call.Complete id parts) other u = goes-failure (errno_of other) u
 goes-hears (call.Abort id) said u = goes-alike u (hears_answer (call.Abort id) said u) refl refl
 goes-hears (call.Head key) said u = goes-failure (errno_of said) u
 goes-hears (call.Probe key) said u = goes-failure (errno_of said) u
+goes-hears (call.List prefix after max) said u = goes-failure (errno_of said) u
 goes-hears (call.Get key etag from to) said u = goes-failure (errno_of said) u
 goes-hears (call.Delete key) said u = goes-failure (errno_of said) u
 goes-hears (call.Put key bytes) said u = goes-failure (errno_of said) u

@@ -20,12 +20,12 @@ use Rattle.mount_model.specs.declared.event.Answered.{Answered}
 use Rattle.mount_model.specs.Step.{Step}
 use Rattle.mount_model.specs.Handles.{Handle, Writer}
 use Rattle.mount_model.specs.Writers.{is_under_way, sync_answer, close_answer, answer_to}
-use Rattle.mount_model.specs.Conversation.{Next, Asks, Replies, Makes, Opens, Creates, Writes}
+use Rattle.mount_model.specs.Conversation.{Next, Asks, Replies, Makes, Opens, Creates, Lists, Writes}
 use Rattle.mount_model.specs.State.{Shared, ClientState, view_of, handle_name, with_names, names_behind, was_under_way, is_answered, handle_behind, writer_left, behind_step, writes_first, closes, by_reply}
 use Rattle.run_laws.proofs.Handles.{Look, with_at, at-same, at-twice, handle-at, look-insert}
 use Rattle.run_laws.proofs.Left.{writer_with, left_under, left-look}
 use Rattle.run_laws.proofs.Conversation.{opens-free, creates-free, replies-unwritten, awaits-name}
-use Rattle.run_laws.proofs.Turn.{SaysSo, ByItself, MakesDir, RemovesDir, OpensHandle, CreatesFile, GivesData, HasNoMemory, MayLack}
+use Rattle.run_laws.proofs.Turn.{SaysSo, ByItself, MakesDir, RemovesDir, OpensHandle, CreatesFile, ListsEntries, GivesData, HasNoMemory, MayLack}
 use Rattle.run_laws.proofs.Opened.{IsOpened}
 use Rattle.run_laws.proofs.Steps.{next_now}
 use Rattle.run_laws.proofs.Effects.{Effect, Keeps, OpensOne, CreatesOne, ClosesOne, reply-effect, free-unwritten}
@@ -135,6 +135,7 @@ lacks-shared (Asks called) line step shared may = refl
 lacks-shared (Makes key) line step shared may = refl
 lacks-shared (Opens version) line step shared may = refl
 lacks-shared (Creates key) line step shared may = refl
+lacks-shared (Lists entries) line step shared may = refl
 lacks-shared (Writes count writer) line step shared may = refl
 lacks-shared other line step shared may = absurd may
 
@@ -174,5 +175,6 @@ reply-files state event opened step next said is has says = go next said is says
         let free = creates-free (view_of shared opened.line) opened.line.request opened.heard key is in
         files-look (with_at name (Some (Writing w)) look) (table.get (table.insert shared.handles name (Writing w))) (with_file key 0 shared.names) (λ q. sym (look-insert shared.handles name (Writing w) q))
         (files-created look shared.names name w (created (view_of shared opened.line) opened.line.request opened.heard key is) (free-unwritten state event opened free.0) refl has)
+    go next said is (ListsEntries entries) = has
     go next said is (GivesData count bytes) = has
     go next said is (HasNoMemory lacked may) = subst SharedFiles (sym (lacks-shared lacked opened.line step shared may)) has

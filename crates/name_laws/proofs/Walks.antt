@@ -2,7 +2,7 @@
 use Rattle.std.proofs.Common.{◌≡◌, ℕ, ◌+◌, ◌*◌, Bool, true, false, not, nat_lt, List, [], ◌∷◌, ◌++◌, length, ◌||◌, ◌==◌, if◌then◌else◌, Option, Some, None, Result, Ok, Err, refl, subst, append_assoc}
 use Rattle.std.specs.FinSet as set
 use Rattle.std.specs.FinMap as map
-use Rattle.mp_types.specs.declared.errno.Errno.TheVariants.{Eperm, Eexist, Eisdir, Einval, Emfile, Enotempty, Efbig}
+use Rattle.mp_types.specs.declared.errno.Errno.TheVariants.{Eperm, Eexist, Eisdir, Einval, Emfile, Enotempty, Efbig, Eoverflow}
 use Rattle.mp_types.specs.declared.path.PathFault.{PathFault}
 use Rattle.mp_types.specs.Path.{path_of, joined, slash}
 use Rattle.mp_types.specs.Content.{bytes_of}
@@ -17,7 +17,11 @@ use Rattle.mp_rules.specs.declared.facts.Fact.{Fact}
 use Rattle.mp_rules.specs.declared.facts.Fact.TheVariants as fact
 use Rattle.mp_rules.specs.Walk.{Decision, Need, Is, Refused, fact_in, below, by_head, by_local, by_probe, entry_at, walk}
 use Rattle.mp_rules.specs.Local.{LocalNames, file_of, local_at, has_name_below}
+use Rattle.listing_rules.specs.Names.{listing_of, prefix_of}
+use Rattle.listing_rules.specs.Pages.{items_of, last_text}
+use Rattle.bucket_model.specs.declared.page.Page.{Page}
 use Rattle.bucket_model.specs.declared.answer.Brief.{Brief}
+use Rattle.bucket_model.specs.declared.answer.Brief.TheVariants as answer
 use Rattle.bucket_model.specs.declared.answer.Brief.TheVariants.{Missing, Bytes, Changed, Gone, Made}
 use Rattle.bucket_model.specs.Answers.{max_parts}
 use Rattle.upload_rules.specs.declared.upload.UpState.{UpState}
@@ -27,11 +31,10 @@ use Rattle.mount_model.specs.declared.handle.Handle.TheVariants.{Reading, Writin
 use Rattle.mount_model.specs.declared.handle.Version.{Version}
 use Rattle.mount_model.specs.declared.request.Request.{Request}
 use Rattle.mount_model.specs.declared.request.Request.TheVariants as request
-use Rattle.mount_model.specs.declared.request.Reply.{Reply}
 use Rattle.mount_model.specs.declared.request.Reply.TheVariants as reply
 use Rattle.mount_model.specs.declared.standing.Heard.{Heard}
 use Rattle.mount_model.specs.Handles.{Handle, Writer}
-use Rattle.mount_model.specs.Conversation.{Next, Makes, Removes, Creates, Opens, Replies, Writes, View, Range, fails, next_of, put_next, delete_next, at_path, along, stat_at, stat_next, opens_if, open_at, create_at, open_next, make_at, make_next, remove_at, remove_next, unlink_at, unlink_next, range_next, range_in, read_next, with_upload, write_at, write_to, write_next, sync_next, close_next}
+use Rattle.mount_model.specs.Conversation.{Next, Makes, Removes, Creates, Opens, Lists, Replies, Writes, View, Range, fails, next_of, put_next, delete_next, at_path, along, stat_at, stat_next, opens_if, open_at, create_at, open_next, make_at, make_next, remove_at, remove_next, unlink_at, unlink_next, max_pages, pages_in, last_of, asks_page, behind_page, behind_answer, list_at, list_next, range_next, range_in, read_next, with_upload, write_at, write_to, write_next, sync_next, close_next}
 use Rattle.name_laws.specs.Files.{IsNoName, IsEmptyDir}
 
 -- what the walk finds stands at the path's own key
@@ -110,9 +113,9 @@ MayStand names other = Unit {0}
 abbrev MayStandAt : LocalNames → List (List ℕ) → (Entry → Next) → Type 0
 MayStandAt names path at = (entry : Entry) → Shows entry (local_at names (joined path)) → MayStand names (at entry)
 
-along-stands : (view : View) (root : Reply) (at : Entry → Next) (path : List (List ℕ)) (heard : Heard) → MayStandAt view.names path at → MayStand view.names (along view (Replies root) at path heard)
-along-stands view root at [] heard stands = tt
-along-stands view root at (name ∷ names) heard stands = go (walk facts (local_at view.names) name names) heard.answers refl
+along-stands : (view : View) (root : Next) (at : Entry → Next) (path : List (List ℕ)) (heard : Heard) → MayStand view.names root → MayStandAt view.names path at → MayStand view.names (along view root at path heard)
+along-stands view root at [] heard ends stands = ends
+along-stands view root at (name ∷ names) heard ends stands = go (walk facts (local_at view.names) name names) heard.answers refl
   where
     facts : Question → Option Fact
     facts = fact_in heard.facts
@@ -166,32 +169,60 @@ unlink-stands names may_delete path other shows = tt
 
 stat-next : (view : View) (path : Result (List (List ℕ)) PathFault) (heard : Heard) → MayStand view.names (stat_next view path heard)
 stat-next view (Err why) heard = tt
-stat-next view (Ok names) heard = along-stands view reply.Directory stat_at names heard (stat-stands view.names names)
+stat-next view (Ok names) heard = along-stands view (Replies reply.Directory) stat_at names heard tt (stat-stands view.names names)
 
 open-next : (at : ℕ → List ℕ → Entry → Next) (view : View) (handle : Option Handle) (path : Result (List (List ℕ)) PathFault) (heard : Heard) → ((names : List (List ℕ)) → MayStandAt view.names names (at view.live (joined names))) → MayStand view.names (open_next at view handle path heard)
 open-next at view handle (Err why) heard stands = tt
 open-next at view (Some handle) (Ok names) heard stands = tt
-open-next at view None (Ok names) heard stands = along-stands view (reply.Failed Eisdir) (at view.live (joined names)) names heard (stands names)
+open-next at view None (Ok names) heard stands = along-stands view (fails Eisdir) (at view.live (joined names)) names heard tt (stands names)
 
 make-next : (view : View) (path : Result (List (List ℕ)) PathFault) (heard : Heard) → MayStand view.names (make_next view path heard)
 make-next view (Err why) heard = tt
-make-next view (Ok names) heard = along-stands view (reply.Failed Eexist) (make_at (joined names)) names heard (make-stands view.names names)
+make-next view (Ok names) heard = along-stands view (fails Eexist) (make_at (joined names)) names heard tt (make-stands view.names names)
 
 remove-next : (view : View) (path : Result (List (List ℕ)) PathFault) (heard : Heard) → MayStand view.names (remove_next view path heard)
 remove-next view (Err why) heard = tt
-remove-next view (Ok names) heard = along-stands view (reply.Failed Eperm) (remove_at view.names (joined names)) names heard (remove-stands view.names names)
+remove-next view (Ok names) heard = along-stands view (fails Eperm) (remove_at view.names (joined names)) names heard tt (remove-stands view.names names)
 
 unlink-next : (view : View) (path : Result (List (List ℕ)) PathFault) (heard : Heard) → MayStand view.names (unlink_next view path heard)
 unlink-next view (Err why) heard = tt
 unlink-next view (Ok names) heard = go heard.answers
   where
     walks : (answers : List Brief) → MayStand view.names (along view (fails Eisdir) (unlink_at view.options.allow_delete (joined names)) names (record { facts = heard.facts; answers = answers }))
-    walks answers = along-stands view (reply.Failed Eisdir) (unlink_at view.options.allow_delete (joined names)) names (record { facts = heard.facts; answers = answers }) (unlink-stands view.names view.options.allow_delete names)
+    walks answers = along-stands view (fails Eisdir) (unlink_at view.options.allow_delete (joined names)) names (record { facts = heard.facts; answers = answers }) tt (unlink-stands view.names view.options.allow_delete names)
 
     go : (answers : List Brief) → MayStand view.names (unlink_next view (Ok names) (record { facts = heard.facts; answers = answers }))
     go [] = walks []
     go (Gone ∷ answers) = tt
     go (other ∷ answers) = walks (other ∷ answers)
+
+list-at-stands : (names : LocalNames) (first : Next) (path : List (List ℕ)) → MayStand names first → MayStandAt names path (list_at first)
+list-at-stands names first path asks RemoteDir shows = asks
+list-at-stands names first path asks LocalDir shows = asks
+list-at-stands names first path asks other shows = tt
+
+page-stands : (view : View) (prefix : List ℕ) (answers : List Brief) (last : Page) → MayStand view.names (behind_page view prefix answers last)
+page-stands view prefix answers last = go last.more (nat_lt (length answers) max_pages)
+  where
+    go : (more few : Bool) → MayStand view.names (if not more then Lists (listing_of prefix (items_of (pages_in answers)) view.names) else (if few then asks_page view prefix (last_text [] last.items) else fails Eoverflow))
+    go false few = tt
+    go true true = tt
+    go true false = tt
+
+answer-stands : (view : View) (prefix : List ℕ) (answers : List Brief) (last : Brief) → MayStand view.names (behind_answer view prefix answers last)
+answer-stands view prefix answers (answer.Page page) = page-stands view prefix answers page
+answer-stands view prefix answers other = tt
+
+list-next : (view : View) (path : Result (List (List ℕ)) PathFault) (heard : Heard) → MayStand view.names (list_next view path heard)
+list-next view (Err why) heard = tt
+list-next view (Ok names) heard = go heard.answers
+  where
+    first : Next
+    first = asks_page view (prefix_of names) []
+
+    go : (answers : List Brief) → MayStand view.names (list_next view (Ok names) (record { facts = heard.facts; answers = answers }))
+    go [] = along-stands view first (list_at first) names (record { facts = heard.facts; answers = [] }) tt (list-at-stands view.names first names tt)
+    go (answer ∷ answers) = answer-stands view (prefix_of names) (answer ∷ answers) (last_of answer answers)
 
 -- what walks no path makes no name
 
@@ -250,6 +281,7 @@ next-stands : (view : View) (asked : Request) (heard : Heard) → MayStand view.
 next-stands view (request.Put key content) heard = put-stands view.names key (bytes_of content) heard.answers
 next-stands view request.Await heard = tt
 next-stands view (request.Stat path) heard = stat-next view (path_of path) heard
+next-stands view (request.List path) heard = list-next view (path_of path) heard
 next-stands view (request.OpenRead name path) heard = open-next open_at view view.handle (path_of path) heard (λ names. open-stands view.names view.live names)
 next-stands view (request.OpenWrite name path) heard = open-next (create_at false) view view.handle (path_of path) heard (λ names. create-stands view.names false view.live names)
 next-stands view (request.OpenTruncate name path) heard = open-next (create_at view.options.allow_overwrite) view view.handle (path_of path) heard (λ names. create-stands view.names view.options.allow_overwrite view.live names)

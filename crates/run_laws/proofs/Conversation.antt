@@ -1,13 +1,17 @@
 -- What each request may say next, by its kind: only an await waits for other lines, only a read gives bytes, each call
--- may be made, fewer calls are left with each answer to one, and what a handle is opened under, written to or ended by.
-use Rattle.std.proofs.Common.{◌≡◌, ◌≢◌, ℕ, ◌+◌, ◌*◌, ◌<◌, ◌≤◌, min, List, [], ◌∷◌, length, Bool, true, false, not, ◌||◌, ◌==◌, nat_le, nat_lt, if◌then◌else◌, Option, Some, None, Result, Ok, Err, refl, sym, ap, ◌∙◌, subst, arith, eqb-true, ltb-false}
+-- may be made, a page is asked for only where a directory is listed, fewer calls are left with each answer to one, and
+-- what a handle is opened under, written to or ended by.
+use Rattle.std.proofs.Common.{◌≡◌, ◌≢◌, ℕ, ◌+◌, ◌*◌, ◌<◌, ◌≤◌, min, List, [], ◌∷◌, ◌++◌, length, Bool, true, false, not, ◌||◌, ◌==◌, nat_le, nat_lt, if◌then◌else◌, Option, Some, None, Result, Ok, Err, refl, sym, ap, ◌∙◌, subst, arith, length-append, eqb-true, ltb-true, ltb-false}
 use Rattle.std.proofs.lemmas.Bool.{eqb-false, leb-false}
-use Rattle.mp_types.specs.declared.errno.Errno.TheVariants.{Eperm, Einval, Eexist, Eisdir, Emfile, Efbig, Enotempty}
+use Rattle.mp_types.specs.declared.errno.Errno.TheVariants.{Eperm, Einval, Eexist, Eisdir, Emfile, Efbig, Enotempty, Eoverflow}
 use Rattle.mp_types.specs.declared.path.PathFault.{PathFault}
 use Rattle.mp_types.specs.Content.{bytes_of}
 use Rattle.mp_types.specs.declared.octets.Data.{Data}
 use Rattle.mp_types.specs.Path.{path_of, joined}
 use Rattle.mp_types.specs.HandleName.{max_handles}
+use Rattle.mp_types.specs.Options.{AreWithin}
+use Rattle.listing_rules.specs.Names.{listing_of, prefix_of}
+use Rattle.listing_rules.specs.Pages.{items_of, last_text}
 use Rattle.mp_rules.specs.declared.entry.Entry.{Entry}
 use Rattle.mp_rules.specs.declared.entry.Entry.TheVariants.{RemoteDir, LocalDir, LocalFile, File, Nothing}
 use Rattle.mp_rules.specs.declared.entry.Local.{Local}
@@ -20,12 +24,15 @@ use Rattle.mp_rules.specs.Walk.{fact_in, Decision, Need, Is, Refused, walk}
 use Rattle.mp_rules.specs.Local.{LocalNames, local_at, has_name_below}
 use Rattle.bucket_model.specs.declared.call.Call.{Call}
 use Rattle.bucket_model.specs.Answers.{max_parts, MayBeMade}
+use Rattle.bucket_model.specs.declared.page.Page.{Page}
 use Rattle.bucket_model.specs.declared.answer.Brief.{Brief}
+use Rattle.bucket_model.specs.declared.answer.Brief.TheVariants as answer
 use Rattle.bucket_model.specs.declared.answer.Brief.TheVariants.{Missing, Bytes, Changed, Gone, Made, Fault}
 use Rattle.upload_rules.specs.declared.upload.UpState.{UpState}
 use Rattle.upload_rules.specs.declared.upload.UpState.TheVariants as state
 use Rattle.upload_rules.specs.Upload.{Upload, written, with_bytes, with_closing}
 use Rattle.mount_model.specs.declared.request.Request.{Request}
+use Rattle.mount_model.specs.declared.request.Request.TheVariants as request
 use Rattle.mount_model.specs.declared.request.Request.TheVariants.{Put, Await, Stat, OpenRead, OpenWrite, OpenTruncate, Read, Write, Sync, Close, Delete, MakeDir, RemoveDir, Unlink}
 use Rattle.mount_model.specs.declared.request.Reply.{Reply}
 use Rattle.mount_model.specs.declared.request.Reply.TheVariants as reply
@@ -36,11 +43,12 @@ use Rattle.mount_model.specs.declared.handle.Waiter.TheVariants as waiter
 use Rattle.mount_model.specs.declared.standing.Heard.{Heard}
 use Rattle.mount_model.specs.Heard.{nothing_heard, with_told, call_of, question_of, fact_of, told_from, told_by}
 use Rattle.mount_model.specs.Handles.{Handle, Writer, name_in}
-use Rattle.mount_model.specs.Conversation.{Next, Asks, Replies, Makes, Removes, Opens, Creates, Gives, Writes, Ends, Waits, View, Range, range_in, fails, put_next, delete_next, at_path, along, stat_at, stat_next, opens_if, open_at, create_at, open_next, make_at, make_next, remove_at, remove_next, unlink_at, unlink_next, range_next, read_next, with_upload, waited_for, write_at, write_to, write_next, ended, sync_next, close_next, next_of}
+use Rattle.mount_model.specs.Conversation.{Next, Asks, Replies, Makes, Removes, Opens, Creates, Lists, Gives, Writes, Ends, Waits, View, Range, range_in, fails, put_next, delete_next, at_path, along, stat_at, stat_next, opens_if, open_at, create_at, open_next, make_at, make_next, remove_at, remove_next, unlink_at, unlink_next, max_pages, pages_in, last_of, asks_page, behind_page, behind_answer, list_at, list_next, range_next, read_next, with_upload, waited_for, write_at, write_to, write_next, ended, sync_next, close_next, next_of}
 use Rattle.run_laws.specs.Alive.{jobs_at_once}
-use Rattle.run_laws.specs.Work.{one_left, path_left, calls_left, writer_calls}
+use Rattle.run_laws.specs.Work.{one_left, path_left, list_left, calls_left, writer_calls}
 use Rattle.run_laws.specs.Writers.{opens_file, awaits_writer, waiting_line}
 pub use Rattle.run_laws.specs.Faithful.{IsRead}
+use Rattle.run_laws.specs.Listings.{MayList}
 use Rattle.run_laws.proofs.Questions.{path-falls, path-most}
 
 -- a reply without data
@@ -52,11 +60,13 @@ IsPlain other = Unit {0}
 abbrev pub Falls : (Heard → ℕ) → Heard → Call → Type 0
 Falls left heard called = (answer : Brief) → left (with_told (told_by (question_of called) answer) heard) < left heard
 
--- a call of a line's own: the line has one at once, each answer leaves fewer, and it may be made
-pub record IsAsked (request : Request) (left : Heard → ℕ) (heard : Heard) (called : Call) : Type 0 where
+-- a call of a line's own: the line has one at once, each answer leaves fewer, it may be made, and it lists only where the
+-- line does
+pub record IsAsked (view : View) (request : Request) (left : Heard → ℕ) (heard : Heard) (called : Call) : Type 0 where
   pub one : jobs_at_once request ≡ 1
   pub falls : Falls left heard called
-  pub may : MayBeMade called
+  pub may : AreWithin view.options → MayBeMade called
+  pub lists : MayList called request
 
 -- a handle that is opened has a free name
 pub record IsFree (view : View) (request : Request) : Type 0 where
@@ -96,12 +106,13 @@ pub record EndsSo (view : View) (request : Request) (now : Writer) : Type 0 wher
 
 -- what it takes to say this next
 abbrev pub SpeaksWith : View → Request → (Heard → ℕ) → Heard → Next → Type 0
-SpeaksWith view request left heard (Asks called) = IsAsked request left heard called
+SpeaksWith view request left heard (Asks called) = IsAsked view request left heard called
 SpeaksWith view request left heard (Replies said) = IsPlain said
 SpeaksWith view request left heard (Makes key) = Unit {0}
 SpeaksWith view request left heard (Removes key) = Unit {0}
 SpeaksWith view request left heard (Opens version) = IsFree view request
 SpeaksWith view request left heard (Creates key) = IsFree view request × (opens_file request ≡ true)
+SpeaksWith view request left heard (Lists entries) = Unit {0}
 SpeaksWith view request left heard (Gives count) = IsRead request
 SpeaksWith view request left heard (Writes count writer) = WritesSo view request count writer
 SpeaksWith view request left heard (Ends writer) = EndsSo view request writer
@@ -115,7 +126,7 @@ abbrev heard_of : List Known → List Brief → Heard
 heard_of facts answers = record { facts = facts; answers = answers }
 
 put-speaks : (view : View) (key : List ℕ) (content : Data) (facts : List Known) (answers : List Brief) → SpeaksWith view (Put key content) one_call (heard_of facts answers) (put_next key (bytes_of content) answers)
-put-speaks view key content facts [] = record { one = refl; falls = λ answer. omega arith; may = tt }
+put-speaks view key content facts [] = record { one = refl; falls = λ answer. omega arith; may = λ within. tt; lists = tt }
 put-speaks view key content facts (Made etag ∷ answers) = tt
 put-speaks view key content facts (other ∷ answers) = tt
 
@@ -172,28 +183,41 @@ unlink-ends : (view : View) (request : Request) (may_delete : Bool) (key : List 
 unlink-ends view request may_delete key names one facts RemoteDir = tt
 unlink-ends view request may_delete key names one facts LocalDir = tt
 unlink-ends view request may_delete key names one facts (LocalFile size) = tt
-unlink-ends view request true key names one facts (File etag size) = record { one = one; falls = λ answer. omega arith; may = tt }
+unlink-ends view request true key names one facts (File etag size) = record { one = one; falls = λ answer. omega arith; may = λ within. tt; lists = tt }
 unlink-ends view request false key names one facts (File etag size) = tt
 unlink-ends view request may_delete key names one facts Nothing = tt
 
--- the answer to a question on the way is one more fact, or the question failed
-asked-falls : (behind : ℕ) (local : List ℕ → Local) (name : List ℕ) (names : List (List ℕ)) (facts : List Known) (question : Question) → walk (fact_in facts) local name names ≡ Need question → (o : Option Fact) (answer : Brief) → path_left behind (Ok (name ∷ names)) (with_told (told_from (Some question) o answer) (heard_of facts [])) < path_left behind (Ok (name ∷ names)) (heard_of facts [])
-asked-falls behind local name names facts question asks None answer = let some = path-falls facts local name names question fact.No asks in omega arith
-asked-falls behind local name names facts question asks (Some told) answer = let some = path-falls facts local name names question told asks in omega arith
+-- the answer to a question on the way is one more fact, or the question failed: fewer calls are left
+abbrev WalkFalls : (Heard → ℕ) → List (List ℕ) → Type 0
+WalkFalls left [] = Unit {0}
+WalkFalls left (name ∷ names) = (facts : List Known) (local : List ℕ → Local) (question : Question) (answer : Brief) → walk (fact_in facts) local name names ≡ Need question → left (with_told (told_by (Some question) answer) (heard_of facts [])) < left (heard_of facts [])
 
-need-speaks : (view : View) (request : Request) (behind : ℕ) (local : List ℕ → Local) (name : List ℕ) (names : List (List ℕ)) (facts : List Known) (question : Question) → jobs_at_once request ≡ 1 → walk (fact_in facts) local name names ≡ Need question → SpeaksWith view request (path_left behind (Ok (name ∷ names))) (heard_of facts []) (Asks (call_of question))
-need-speaks view request behind local name names facts (question.Head key) one asks = record { one = one; falls = λ answer. asked-falls behind local name names facts (question.Head key) asks (fact_of answer) answer; may = tt }
-need-speaks view request behind local name names facts (question.Probe key) one asks = record { one = one; falls = λ answer. asked-falls behind local name names facts (question.Probe key) asks (fact_of answer) answer; may = tt }
-
-names-speak : (request : Request) (behind : ℕ) (view : View) (root : Reply) (at : Entry → Next) (names : List (List ℕ)) → jobs_at_once request ≡ 1 → IsPlain root → EndsAt view request (path_left behind (Ok names)) at → (facts : List Known) (answers : List Brief) → SpeaksWith view request (path_left behind (Ok names)) (heard_of facts answers) (along view (Replies root) at names (heard_of facts answers))
-names-speak request behind view root at [] one plain ends facts answers = plain
-names-speak request behind view root at (name ∷ names) one plain ends facts (answer ∷ answers) = tt
-names-speak request behind view root at (name ∷ names) one plain ends facts [] = go (walk (fact_in facts) (local_at view.names) name names) refl
+path-walk-falls : (behind : ℕ) (names : List (List ℕ)) → WalkFalls (path_left behind (Ok names)) names
+path-walk-falls behind [] = tt
+path-walk-falls behind (name ∷ names) = λ facts local question answer asks. go facts local question answer asks (fact_of answer)
   where
-    go : (decision : Decision) → walk (fact_in facts) (local_at view.names) name names ≡ decision → SpeaksWith view request (path_left behind (Ok (name ∷ names))) (heard_of facts []) (at_path at decision [])
-    go (Need question) is = need-speaks view request behind (local_at view.names) name names facts question one is
+    go : (facts : List Known) (local : List ℕ → Local) (question : Question) (answer : Brief) → walk (fact_in facts) local name names ≡ Need question → (o : Option Fact) → path_left behind (Ok (name ∷ names)) (with_told (told_from (Some question) o answer) (heard_of facts [])) < path_left behind (Ok (name ∷ names)) (heard_of facts [])
+    go facts local question answer asks None = let some = path-falls facts local name names question fact.No asks in omega arith
+    go facts local question answer asks (Some told) = let some = path-falls facts local name names question told asks in omega arith
+
+need-speaks : (view : View) (request : Request) (left : Heard → ℕ) (local : List ℕ → Local) (name : List ℕ) (names : List (List ℕ)) (facts : List Known) (question : Question) → jobs_at_once request ≡ 1 → WalkFalls left (name ∷ names) → walk (fact_in facts) local name names ≡ Need question → SpeaksWith view request left (heard_of facts []) (Asks (call_of question))
+need-speaks view request left local name names facts (question.Head key) one falls asks = record { one = one; falls = λ answer. falls facts local (question.Head key) answer asks; may = λ within. tt; lists = tt }
+need-speaks view request left local name names facts (question.Probe key) one falls asks = record { one = one; falls = λ answer. falls facts local (question.Probe key) answer asks; may = λ within. tt; lists = tt }
+
+-- while no answer is there but facts
+walk-speaks : (request : Request) (left : Heard → ℕ) (view : View) (root : Next) (at : Entry → Next) (names : List (List ℕ)) → jobs_at_once request ≡ 1 → ((facts : List Known) → SpeaksWith view request left (heard_of facts []) root) → EndsAt view request left at → WalkFalls left names → (facts : List Known) → SpeaksWith view request left (heard_of facts []) (along view root at names (heard_of facts []))
+walk-speaks request left view root at [] one speaks ends falls facts = speaks facts
+walk-speaks request left view root at (name ∷ names) one speaks ends falls facts = go (walk (fact_in facts) (local_at view.names) name names) refl
+  where
+    go : (decision : Decision) → walk (fact_in facts) (local_at view.names) name names ≡ decision → SpeaksWith view request left (heard_of facts []) (at_path at decision [])
+    go (Need question) is = need-speaks view request left (local_at view.names) name names facts question one falls is
     go (Is entry) is = ends facts entry
     go (Refused errno) is = tt
+
+names-speak : (request : Request) (behind : ℕ) (view : View) (root : Reply) (at : Entry → Next) (names : List (List ℕ)) → jobs_at_once request ≡ 1 → IsPlain root → EndsAt view request (path_left behind (Ok names)) at → (facts : List Known) (answers : List Brief) → SpeaksWith view request (path_left behind (Ok names)) (heard_of facts answers) (along view (Replies root) at names (heard_of facts answers))
+names-speak request behind view root at names one plain ends facts [] = walk-speaks request (path_left behind (Ok names)) view (Replies root) at names one (λ known. plain) ends (path-walk-falls behind names) facts
+names-speak request behind view root at [] one plain ends facts (answer ∷ answers) = plain
+names-speak request behind view root at (name ∷ names) one plain ends facts (answer ∷ answers) = tt
 
 stat-speaks : (request : Request) (view : View) (path : Result (List (List ℕ)) PathFault) (heard : Heard) → jobs_at_once request ≡ 1 → SpeaksWith view request (path_left 0 path) heard (stat_next view path heard)
 stat-speaks request view (Err why) heard one = tt
@@ -224,6 +248,69 @@ unlink-speaks request view (Ok names) heard one = go heard.facts heard.answers
     go facts (Gone ∷ answers) = tt
     go facts (other ∷ answers) = along_names facts (other ∷ answers)
 
+-- a listing's pages
+
+list-walk-falls : (names : List (List ℕ)) → WalkFalls (list_left (Ok names)) names
+list-walk-falls [] = tt
+list-walk-falls (name ∷ names) = λ facts local question answer asks. go facts local question answer asks (fact_of answer)
+  where
+    go : (facts : List Known) (local : List ℕ → Local) (question : Question) (answer : Brief) → walk (fact_in facts) local name names ≡ Need question → (o : Option Fact) → list_left (Ok (name ∷ names)) (with_told (told_from (Some question) o answer) (heard_of facts [])) < list_left (Ok (name ∷ names)) (heard_of facts [])
+    go facts local question answer asks None = omega arith
+    go facts local question answer asks (Some told) = let some = path-falls facts local name names question told asks in omega arith
+
+-- each answer leaves one page fewer
+page-falls : (names : List (List ℕ)) (facts : List Known) (answers : List Brief) (answer : Brief) → length answers < max_pages → list_left (Ok names) (heard_of facts (answers ++ answer ∷ [])) < list_left (Ok names) (heard_of facts answers)
+page-falls names facts [] answer few = omega arith
+page-falls names facts (first ∷ answers) answer few = let sum = length-append answers (answer ∷ []) in omega arith
+
+page-asked : (view : View) (path : List ℕ) (names : List (List ℕ)) (after : List ℕ) (facts : List Known) (answers : List Brief) → path_of path ≡ Ok names → length answers < max_pages → SpeaksWith view (request.List path) (list_left (Ok names)) (heard_of facts answers) (asks_page view (prefix_of names) after)
+page-asked view path names after facts answers fine few = record {
+  one = refl;
+  falls = λ answer. page-falls names facts answers answer few;
+  may = λ within. (within.page_low, within.page_high);
+  lists = record { path = path; lists = refl; names = names; fine = fine; prefix_is = refl };
+}
+
+list-ends : (view : View) (request : Request) (left : Heard → ℕ) (first : Next) → ((facts : List Known) → SpeaksWith view request left (heard_of facts []) first) → EndsAt view request left (list_at first)
+list-ends view request left first speaks facts RemoteDir = speaks facts
+list-ends view request left first speaks facts LocalDir = speaks facts
+list-ends view request left first speaks facts (LocalFile size) = tt
+list-ends view request left first speaks facts (File etag size) = tt
+list-ends view request left first speaks facts Nothing = tt
+
+-- behind a page
+page-speaks : (view : View) (path : List ℕ) (names : List (List ℕ)) (facts : List Known) (answers : List Brief) (last : Page) → path_of path ≡ Ok names → SpeaksWith view (request.List path) (list_left (Ok names)) (heard_of facts answers) (behind_page view (prefix_of names) answers last)
+page-speaks view path names facts answers last fine = go last.more (nat_lt (length answers) max_pages) refl
+  where
+    next : Next
+    next = asks_page view (prefix_of names) (last_text [] last.items)
+
+    shown : Next
+    shown = Lists (listing_of (prefix_of names) (items_of (pages_in answers)) view.names)
+
+    go : (more few : Bool) → nat_lt (length answers) max_pages ≡ few → SpeaksWith view (request.List path) (list_left (Ok names)) (heard_of facts answers) (if not more then shown else (if few then next else fails Eoverflow))
+    go false few is = tt
+    go true true is = page-asked view path names (last_text [] last.items) facts answers fine (ltb-true (length answers) max_pages is)
+    go true false is = tt
+
+answer-speaks : (view : View) (path : List ℕ) (names : List (List ℕ)) (facts : List Known) (answers : List Brief) (last : Brief) → path_of path ≡ Ok names → SpeaksWith view (request.List path) (list_left (Ok names)) (heard_of facts answers) (behind_answer view (prefix_of names) answers last)
+answer-speaks view path names facts answers (answer.Page page) fine = page-speaks view path names facts answers page fine
+answer-speaks view path names facts answers other fine = tt
+
+list-speaks : (view : View) (path : List ℕ) (found : Result (List (List ℕ)) PathFault) (heard : Heard) → path_of path ≡ found → SpeaksWith view (request.List path) (list_left found) heard (list_next view found heard)
+list-speaks view path (Err why) heard is = tt
+list-speaks view path (Ok names) heard is = go heard.facts heard.answers
+  where
+    first : Next
+    first = asks_page view (prefix_of names) []
+
+    speaks_first : (facts : List Known) → SpeaksWith view (request.List path) (list_left (Ok names)) (heard_of facts []) first
+    speaks_first facts = page-asked view path names [] facts [] is (omega arith)
+
+    go : (facts : List Known) (answers : List Brief) → SpeaksWith view (request.List path) (list_left (Ok names)) (heard_of facts answers) (list_next view (Ok names) (heard_of facts answers))
+    go facts [] = walk-speaks (request.List path) (list_left (Ok names)) view first (list_at first) names refl speaks_first (list-ends view (request.List path) (list_left (Ok names)) first speaks_first) (list-walk-falls names) facts
+    go facts (answer ∷ answers) = answer-speaks view path names facts (answer ∷ answers) (last_of answer answers) is
+
 -- a range has a byte
 pub range_some : (offset count size : ℕ) (range : Range) → range_in offset count size ≡ Some range → range.from < range.to
 range_some offset count size range is = go (count == 0) (nat_le size offset) refl refl is
@@ -241,7 +328,7 @@ range_some offset count size range is = go (count == 0) (nat_le size offset) ref
 
 range-speaks : (view : View) (name offset count : ℕ) (version : Version) (o : Option Range) (facts : List Known) (answers : List Brief) → ((range : Range) → o ≡ Some range → range.from < range.to) → SpeaksWith view (Read name offset count) one_call (heard_of facts answers) (range_next version o answers)
 range-speaks view name offset count version None facts answers some = tt
-range-speaks view name offset count version (Some range) facts [] some = record { one = refl; falls = λ answer. omega arith; may = some range refl }
+range-speaks view name offset count version (Some range) facts [] some = record { one = refl; falls = λ answer. omega arith; may = λ within. some range refl; lists = tt }
 range-speaks view name offset count version (Some range) facts (Bytes given ∷ answers) some = tt
 range-speaks view name offset count version (Some range) facts (Changed ∷ answers) some = tt
 range-speaks view name offset count version (Some range) facts (Missing ∷ answers) some = tt
@@ -288,7 +375,7 @@ close-speaks view name heard (Some (Reading line version)) live = tt
 close-speaks view name heard (Some (Writing w)) live = record { name = name; names = refl; before = w; live = live; who = waiter.Close view.line; now_is = refl; waits = refl; awaits = refl }
 
 delete-speaks : (view : View) (key : List ℕ) (facts : List Known) (answers : List Brief) → SpeaksWith view (Delete key) one_call (heard_of facts answers) (delete_next key answers)
-delete-speaks view key facts [] = record { one = refl; falls = λ answer. omega arith; may = tt }
+delete-speaks view key facts [] = record { one = refl; falls = λ answer. omega arith; may = λ within. tt; lists = tt }
 delete-speaks view key facts (Gone ∷ answers) = tt
 delete-speaks view key facts (other ∷ answers) = tt
 
@@ -304,6 +391,7 @@ speaks : (view : View) (request : Request) (heard : Heard) → Speaks view reque
 speaks view (Put key content) heard = OtherSpeaks (put-speaks view key content heard.facts heard.answers)
 speaks view Await heard = AwaitSpeaks refl refl
 speaks view (Stat path) heard = OtherSpeaks (stat-speaks (Stat path) view (path_of path) heard refl)
+speaks view (request.List path) heard = OtherSpeaks (list-speaks view path (path_of path) heard refl)
 speaks view (OpenRead name path) heard = OtherSpeaks (open-speaks open_at (OpenRead name path) view view.handle (path_of path) heard refl (λ free names. open-ends view (OpenRead name path) (path_left 0 (Ok names)) view.live (joined names) (is-free view (OpenRead name path) name refl free)))
 speaks view (OpenWrite name path) heard = OtherSpeaks (open-speaks (create_at false) (OpenWrite name path) view view.handle (path_of path) heard refl (λ free names. create-ends view (OpenWrite name path) (path_left 0 (Ok names)) false view.live (joined names) (is-free view (OpenWrite name path) name refl free) refl))
 speaks view (OpenTruncate name path) heard = OtherSpeaks (open-speaks (create_at view.options.allow_overwrite) (OpenTruncate name path) view view.handle (path_of path) heard refl (λ free names. create-ends view (OpenTruncate name path) (path_left 0 (Ok names)) view.options.allow_overwrite view.live (joined names) (is-free view (OpenTruncate name path) name refl free) refl))
@@ -331,7 +419,7 @@ spoken view request heard next is other = go (speaks view request heard)
     go (AwaitSpeaks awaits waits) = absurd (other (sym is ∙ waits))
     go (OtherSpeaks fine) = subst (SpeaksWith view request (calls_left request) heard) is fine
 
-pub asks-so : (view : View) (request : Request) (heard : Heard) (called : Call) → next_of view request heard ≡ Asks called → IsAsked request (calls_left request) heard called
+pub asks-so : (view : View) (request : Request) (heard : Heard) (called : Call) → next_of view request heard ≡ Asks called → IsAsked view request (calls_left request) heard called
 asks-so view request heard called is = spoken view request heard (Asks called) is (λ e. absurd (cc))
 
 pub asks-one : (view : View) (request : Request) (heard : Heard) (called : Call) → next_of view request heard ≡ Asks called → jobs_at_once request ≡ 1
@@ -346,8 +434,12 @@ pub asks-left : (view : View) (request : Request) (heard : Heard) (called : Call
 asks-left view request heard called is = let falls = calls_left_fall view request heard called Fault is in omega arith
 
 -- the call may be made
-pub asks_made : (view : View) (request : Request) (heard : Heard) (called : Call) → next_of view request heard ≡ Asks called → MayBeMade called
-asks_made view request heard called is = (asks-so view request heard called is).may
+pub asks_made : (view : View) (request : Request) (heard : Heard) (called : Call) → AreWithin view.options → next_of view request heard ≡ Asks called → MayBeMade called
+asks_made view request heard called within is = (asks-so view request heard called is).may within
+
+-- and it lists only where the line does
+pub asks_listed : (view : View) (request : Request) (heard : Heard) (called : Call) → next_of view request heard ≡ Asks called → MayList called request
+asks_listed view request heard called is = (asks-so view request heard called is).lists
 
 pub gives-read : (view : View) (request : Request) (heard : Heard) (count : ℕ) → next_of view request heard ≡ Gives count → IsRead request
 gives-read view request heard count is = spoken view request heard (Gives count) is (λ e. absurd (cc))
@@ -422,3 +514,12 @@ walk_calls path names is = let most = path_calls 0 path names is in omega arith
 
 pub faulty_calls : (behind : ℕ) (path : Result (List (List ℕ)) PathFault) (why : PathFault) → path ≡ Err why → path_left behind path nothing_heard ≡ 0
 faulty_calls behind path why is = ap (λ (t : Result (List (List ℕ)) PathFault). path_left behind t nothing_heard) is
+
+pub list_calls : (path : Result (List (List ℕ)) PathFault) (names : List (List ℕ)) → path ≡ Ok names → list_left path nothing_heard ≤ 2 * length names + max_pages
+list_calls path names is =
+    let most = path-most (fact_in []) names in
+    let same : list_left path nothing_heard ≡ list_left (Ok names) nothing_heard = ap (λ (t : Result (List (List ℕ)) PathFault). list_left t nothing_heard) is in
+    omega arith
+
+pub faulty_list : (path : Result (List (List ℕ)) PathFault) (why : PathFault) → path ≡ Err why → list_left path nothing_heard ≡ 0
+faulty_list path why is = ap (λ (t : Result (List (List ℕ)) PathFault). list_left t nothing_heard) is

@@ -20,7 +20,7 @@ use Rattle.mount_model.specs.declared.standing.Phase.TheVariants.{Waiting, Begun
 use Rattle.mount_model.specs.declared.standing.Standing.{Standing}
 use Rattle.mount_model.specs.Step.{Step}
 use Rattle.mount_model.specs.Handles.{Handle, Writer}
-use Rattle.mount_model.specs.Conversation.{Next, Asks, Replies, Makes, Opens, Creates, Writes, Waits}
+use Rattle.mount_model.specs.Conversation.{Next, Asks, Replies, Makes, Opens, Creates, Lists, Writes, Waits}
 use Rattle.mount_model.specs.State.{Shared, ClientState, Job, line_at, change_line, lines_at, jobs_at, view_of, handle_name, writes_first, closes, by_reply, reply_in}
 use Rattle.run_laws.specs.Alive.{IsAlive}
 use Rattle.run_laws.specs.Counts.{any_call, is_create, is_part, is_complete, is_abort, calls_made, calls_out}
@@ -33,7 +33,7 @@ use Rattle.run_laws.proofs.Places.{new-upload}
 use Rattle.run_laws.proofs.Handles.{Look, with_at, look-insert, look-remove, handle-at}
 use Rattle.run_laws.proofs.Writers.{stands_as, AllKeep, LinesKeep, keep-same, keep-replied, same-jobs, one-changes, writers-keep, writers-look, phases-apart}
 use Rattle.run_laws.proofs.Conversation.{IsFree, opens-free, creates-free, replies-unwritten, awaits-name}
-use Rattle.run_laws.proofs.Turn.{SaysSo, ByItself, MakesDir, RemovesDir, OpensHandle, CreatesFile, GivesData, HasNoMemory, MayLack}
+use Rattle.run_laws.proofs.Turn.{SaysSo, ByItself, MakesDir, RemovesDir, OpensHandle, CreatesFile, ListsEntries, GivesData, HasNoMemory, MayLack}
 use Rattle.run_laws.proofs.Opened.{IsOpened}
 use Rattle.run_laws.proofs.Steps.{next_now}
 
@@ -77,6 +77,7 @@ lacks-effect (Asks called) line step shared may = Keeps (λ q. refl)
 lacks-effect (Makes key) line step shared may = Keeps (λ q. refl)
 lacks-effect (Opens version) line step shared may = Keeps (λ q. refl)
 lacks-effect (Creates key) line step shared may = Keeps (λ q. refl)
+lacks-effect (Lists entries) line step shared may = Keeps (λ q. refl)
 lacks-effect (Writes count writer) line step shared may = Keeps (λ q. refl)
 lacks-effect other line step shared may = absurd may
 
@@ -86,6 +87,7 @@ reply-effect next said line step shared (MakesDir key) = Keeps (λ q. refl)
 reply-effect next said line step shared (RemovesDir key) = Keeps (λ q. refl)
 reply-effect next said line step shared (OpensHandle version) = OpensOne version refl (λ q. look-insert shared.handles (handle_name line) (Reading line.number version) q)
 reply-effect next said line step shared (CreatesFile key) = CreatesOne key refl (λ q. look-insert shared.handles (handle_name line) (Writing (writes_first line key shared)) q)
+reply-effect next said line step shared (ListsEntries entries) = Keeps (λ q. refl)
 reply-effect next said line step shared (GivesData count bytes) = Keeps (λ q. refl)
 reply-effect next said line step shared (HasNoMemory lacked may) = lacks-effect lacked line step shared may
 
@@ -105,6 +107,7 @@ lacks-options (Asks called) line step shared may = refl
 lacks-options (Makes key) line step shared may = refl
 lacks-options (Opens version) line step shared may = refl
 lacks-options (Creates key) line step shared may = refl
+lacks-options (Lists entries) line step shared may = refl
 lacks-options (Writes count writer) line step shared may = refl
 lacks-options other line step shared may = absurd may
 
@@ -114,6 +117,7 @@ reply-options next said line step shared (MakesDir key) = refl
 reply-options next said line step shared (RemovesDir key) = refl
 reply-options next said line step shared (OpensHandle version) = refl
 reply-options next said line step shared (CreatesFile key) = refl
+reply-options next said line step shared (ListsEntries entries) = refl
 reply-options next said line step shared (GivesData count bytes) = refl
 reply-options next said line step shared (HasNoMemory lacked may) = lacks-options lacked line step shared may
 

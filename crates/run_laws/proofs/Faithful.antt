@@ -1,5 +1,5 @@
--- What a line's own job that is ready or out has to do with its line: a read's makes the call that its line does next, and
--- each answer leaves fewer calls.
+-- What a line's own job that is ready or out has to do with its line: a read's makes the call that its line does next, each
+-- answer leaves fewer calls, and one that lists is of a line that lists, which has heard nothing but pages.
 use Rattle.std.proofs.Common.{◌≡◌, ◌≢◌, ℕ, ◌+◌, ◌<◌, List, [], ◌∷◌, ◌++◌, fold, length, cond, Bool, true, false, ◌==◌, Some, None, ◌⊎◌, inl, inr, refl, sym, ap, ◌∙◌, subst, subst₂, arith, append-nil, eqb-true}
 use Rattle.std.proofs.lemmas.Bool.{eqb-false}
 use Rattle.std.specs.FinMap as table
@@ -29,7 +29,8 @@ use Rattle.mount_model.specs.Conversation.{Next, Asks, Writes, View, next_of}
 use Rattle.mount_model.specs.State.{Shared, ClientState, Job, JobPhase, Ready, Out, Gone, line_at, job_at, change_job, in_phase, lines_at, jobs_at, with_replies, view_of, next_in, handle_name, Turn, jobs_of_writer, jobs_of_line, jobs_after, with_names, writer_left, by_reply, reply_in, shared_after, opening, after, state_after}
 use Rattle.mount_model.specs.Run.{AreRising, MayCome, due_awaits, TakesTurnOfWriter, IsLegalStep, IsRunSoFar}
 use Rattle.run_laws.specs.Alive.{live_job, jobs_at_once, IsAlive}
-use Rattle.run_laws.specs.Faithful.{IsRead, MakesRead, LeavesFewer, IsFaithful}
+use Rattle.run_laws.specs.Faithful.{IsRead, MakesRead, LeavesFewer, MakesListing, IsFaithful}
+use Rattle.run_laws.specs.Listings.{MayList, AsksItself, HeardPages}
 use Rattle.run_laws.specs.Served.{IsOfLine}
 use Rattle.run_laws.specs.Work.{calls_left}
 use Rattle.run_laws.specs.Writers.{awaits_writer}
@@ -41,9 +42,10 @@ use Rattle.run_laws.proofs.Jobs.{job_number, Rises-jobs, ready-found, found-of-t
 use Rattle.run_laws.proofs.Dropped.{drop_one}
 use Rattle.run_laws.proofs.Handles.{at-other, handle-at, name-actor}
 use Rattle.run_laws.proofs.Writers.{stands_as, phases-apart}
-use Rattle.run_laws.proofs.Conversation.{asks-one, calls_left_fall, one-no-wait, one-no-await, read_next_same, read-reads, writes-so, ends-so}
+use Rattle.run_laws.proofs.Conversation.{asks-one, calls_left_fall, asks_listed, one-no-wait, one-no-await, read_next_same, read-reads, writes-so, ends-so}
+use Rattle.run_laws.proofs.Pages.{asks-pages}
 use Rattle.run_laws.proofs.Turn.{Ending, AsksOne, RepliesOne, WritesOn, EndsIt, Rests, line_job}
-use Rattle.run_laws.proofs.Opened.{owner-due, live-own, IsOpened, IsHeard}
+use Rattle.run_laws.proofs.Opened.{owner-itself, owner-due, live-own, IsOpened, IsHeard}
 use Rattle.run_laws.proofs.Left.{left-look}
 use Rattle.run_laws.proofs.Steps.{next_now, heard_now, StepIs, LineStep, WriterStep, TakeStep, step-is, IsReadyFor, heard-ready, ends-ready, writes-ready}
 use Rattle.run_laws.proofs.Effects.{asks-shared, waits-shared, Effect, Keeps, OpensOne, CreatesOne, ClosesOne, reply-effect}
@@ -74,12 +76,12 @@ changed-found k n phase (first ∷ jobs) job is = go (first.number == n) (first.
     go false false at_n at_k is ih = later at_k (ih (sym (rw at_k refl) ∙ is))
 
 -- a job that is ready or out behind an event was so before
-record WasLive (state : ClientState) (k : ℕ) (job : Job) : Type 0 where
-  phase : JobPhase
-  stands : job_at k state.jobs ≡ Some (in_phase phase job)
-  live : phase ≢ Gone
+pub record WasLive (state : ClientState) (k : ℕ) (job : Job) : Type 0 where
+  pub phase : JobPhase
+  pub stands : job_at k state.jobs ≡ Some (in_phase phase job)
+  pub live : phase ≢ Gone
 
-was-live : (state : ClientState) (event : Event) (k : ℕ) (job : Job) → IsAlive state → MayCome state event → job_at k (jobs_at state.jobs event) ≡ Some job → job.phase ≢ Gone → WasLive state k job
+pub was-live : (state : ClientState) (event : Event) (k : ℕ) (job : Job) → IsAlive state → MayCome state event → job_at k (jobs_at state.jobs event) ≡ Some job → job.phase ≢ Gone → WasLive state k job
 was-live state (Begin n time) k job alive may stands live = record { phase = job.phase; stands = stands; live = live }
 was-live state (Take number time from) k job alive may stands live = go (changed-found k number (Out from) state.jobs job stands)
   where
@@ -107,9 +109,9 @@ turn-apart state event k job opened stands of_line live same =
 
 -- the jobs of lines behind a step
 
-data JobIs (state : ClientState) (step : Step) (own : List Answered) (k : ℕ) (job : Job) : Type 0 where
+pub data JobIs (state : ClientState) (step : Step) (own : List Answered) (k : ℕ) (job : Job) : Type 0 where
   OldJob : job_at k (jobs_at state.jobs step.event) ≡ Some job → JobIs state step own k job
-  NewJob : (opened : IsOpened state step.event) → next_now state step.event opened ≡ Asks job.call → job.line ≡ opened.n → own ≡ [] → shared_behind state step ≡ state.shared → JobIs state step own k job
+  NewJob : (opened : IsOpened state step.event) → next_now state step.event opened ≡ Asks job.call → job.line ≡ opened.n → job.owner ≡ opened.who → own ≡ [] → shared_behind state step ≡ state.shared → JobIs state step own k job
 
 single-found : (k : ℕ) (first job : Job) → job_at k (first ∷ []) ≡ Some job → first ≡ job
 single-found k first job is = go (first.number == k) is
@@ -140,7 +142,7 @@ line-job-is state step own k job opened alive ended stands of_line live = go end
         elim (found-of-two k (jobs_at state.jobs step.event) (line_job (length state.jobs + 1) opened.who opened.n called ∷ []) job (ap (job_at k) (sym (asks-jobs state step opened called is asks no_drops)) ∙ stands)) [
           | inl old ↦ OldJob old
           | inr new ↦ (let same = single-found k (line_job (length state.jobs + 1) opened.who opened.n called) job new in
-              NewJob opened (is ∙ ap (λ (j : Job). Asks j.call) same) (sym (ap (λ (j : Job). j.line) same)) none (shared-is state step opened ∙ ap (λ (x : Next). by_reply x opened.line step state.shared (reply_in opened.line.number step.replies)) is ∙ asks-shared called opened.line step state.shared (reply_in opened.line.number step.replies)))
+              NewJob opened (is ∙ ap (λ (j : Job). Asks j.call) same) (sym (ap (λ (j : Job). j.line) same)) (sym (ap (λ (j : Job). j.owner) same)) none (shared-is state step opened ∙ ap (λ (x : Next). by_reply x opened.line step state.shared (reply_in opened.line.number step.replies)) is ∙ asks-shared called opened.line step state.shared (reply_in opened.line.number step.replies)))
         ]
     go (RepliesOne said says no_asks one no_drops) = quiet no_asks no_drops
     go (WritesOn count w answers is takes one) =
@@ -157,7 +159,7 @@ taken-job-is state event drops asks replies own number time from k job is no_dro
     let here : jobs_behind state (step event) ≡ change_job number (Out from) state.jobs = ap (λ (e : Event). jobs_behind state (step e)) is ∙ ap (fold drop_one (change_job number (Out from) state.jobs ++ [])) no_drops ∙ append-nil (change_job number (Out from) state.jobs) in
     ap (λ (e : Event). job_at k (jobs_at state.jobs e)) is ∙ ap (job_at k) (sym here) ∙ stands
 
-job-is : (state : ClientState) (step : Step) (own : List Answered) (k : ℕ) (job : Job) → IsAlive state → StepIs state step own → job_at k (jobs_behind state step) ≡ Some job → IsOfLine job.owner → job.phase ≢ Gone → JobIs state step own k job
+pub job-is : (state : ClientState) (step : Step) (own : List Answered) (k : ℕ) (job : Job) → IsAlive state → StepIs state step own → job_at k (jobs_behind state step) ≡ Some job → IsOfLine job.owner → job.phase ≢ Gone → JobIs state step own k job
 job-is state step own k job alive (LineStep opened ended) stands of_line live = line-job-is state step own k job opened alive ended stands of_line live
 job-is state step own k job alive (WriterStep heard takes) stands of_line live = turned-job state step heard.name (heard_now state step.event heard) 0 own own k job (heard-ready state step.event alive heard) takes (ap (jobs_after state.jobs step) heard.turn) stands of_line live
 job-is state step own k job alive (TakeStep number time from is found no_asks no_own no_drops) stands of_line live = OldJob (taken-job-is state step.event step.drops step.asks step.replies own number time from k job is no_drops stands)
@@ -269,23 +271,25 @@ event-stays state step own m line heard (TakeStep number time from is found no_a
 record Fits (state : ClientState) (job : Job) : Type 0 where
   reads : MakesRead state job
   falls : LeavesFewer state job
+  lists : MakesListing state job
 
 -- it holds where its line stands so, with the handle that its read sees
-left-fits : (shared : Shared) (behind : ClientState) (job : Job) (line : Line) (heard : Heard) → line_at job.line behind.lines ≡ stands_as line (Begun heard) → (IsRead line.request → handle_of line behind.shared.handles ≡ handle_of line shared.handles) → (IsRead line.request → next_of (view_of shared line) line.request heard ≡ Asks job.call) → ((answer : Brief) → calls_left line.request (with_told (told_by (question_of job.call) answer) heard) < calls_left line.request heard) → Fits behind job
-left-fits shared behind job line heard stands handle reads falls = record {
+left-fits : (shared : Shared) (behind : ClientState) (job : Job) (line : Line) (heard : Heard) → line_at job.line behind.lines ≡ stands_as line (Begun heard) → (IsRead line.request → handle_of line behind.shared.handles ≡ handle_of line shared.handles) → (IsRead line.request → next_of (view_of shared line) line.request heard ≡ Asks job.call) → ((answer : Brief) → calls_left line.request (with_told (told_by (question_of job.call) answer) heard) < calls_left line.request heard) → MayList job.call line.request × AsksItself line.request job.owner job.line × HeardPages line.request heard.answers → Fits behind job
+left-fits shared behind job line heard stands handle reads falls lists = record {
   reads = λ standing there read.
       let same : record { line = line; phase = Begun heard } ≡ standing = is_same standing there in
       let here : IsRead line.request = subst (λ (s : Standing). IsRead s.line.request) (sym same) read in
       ap (next_in behind.shared) (sym same) ∙ read_next_same (view_of behind.shared line) (view_of shared line) line.request heard here (handle here) ∙ reads here;
   falls = λ standing now answer there begun.
-      let same : record { line = line; phase = Begun heard } ≡ standing = is_same standing there in
-      let phases : Begun heard ≡ Begun now = ap (λ (s : Standing). s.phase) same ∙ begun in
-      let heard_is : heard ≡ now = cc in
-      subst₂ (λ (l : Line) (h : Heard). calls_left l.request (with_told (told_by (question_of job.call) answer) h) < calls_left l.request h) (ap (λ (s : Standing). s.line) same) heard_is (falls answer);
+      subst₂ (λ (l : Line) (h : Heard). calls_left l.request (with_told (told_by (question_of job.call) answer) h) < calls_left l.request h) (ap (λ (s : Standing). s.line) (is_same standing there)) (is_heard standing now there begun) (falls answer);
+  lists = λ standing now there begun. subst₂ (λ (l : Line) (h : Heard). MayList job.call l.request × AsksItself l.request job.owner job.line × HeardPages l.request h.answers) (ap (λ (s : Standing). s.line) (is_same standing there)) (is_heard standing now there begun) lists;
 }
   where
     is_same : (standing : Standing) → line_at job.line behind.lines ≡ Some standing → record { line = line; phase = Begun heard } ≡ standing
     is_same standing there = let both : stands_as line (Begun heard) ≡ Some standing = sym stands ∙ there in cc
+
+    is_heard : (standing : Standing) (now : Heard) → line_at job.line behind.lines ≡ Some standing → standing.phase ≡ Begun now → heard ≡ now
+    is_heard standing now there begun = let phases : Begun heard ≡ Begun now = ap (λ (s : Standing). s.phase) (is_same standing there) ∙ begun in cc
 
 -- so of a job that was ready or out before
 old-fits : (state : ClientState) (step : Step) (k : ℕ) (job : Job) → IsAlive state → IsFaithful state → (legal : IsLegalStep state step) → job_at k (jobs_at state.jobs step.event) ≡ Some job → IsOfLine job.owner → job.phase ≢ Gone → Fits (after state step) job
@@ -301,20 +305,25 @@ old-fits state step k job alive faithful legal stands of_line live =
     (λ read. read-kept state step job.line due.line due.heard job.call alive legal here apart read (reads read))
     reads
     (λ answer. faithful.falls k old was.stands of_line was.live standing due.heard answer due.stands refl)
+    (faithful.lists k old was.stands of_line was.live standing due.heard due.stands refl)
 
 -- and the job that is asked for makes the call that its line does next
-new-fits : (state : ClientState) (step : Step) (job : Job) → IsAlive state → (legal : IsLegalStep state step) → (opened : IsOpened state step.event) → next_now state step.event opened ≡ Asks job.call → job.line ≡ opened.n → legal.own ≡ [] → shared_behind state step ≡ state.shared → Fits (after state step) job
-new-fits state step job alive legal opened asks line none shared_same =
+new-fits : (state : ClientState) (step : Step) (job : Job) → IsAlive state → IsFaithful state → (legal : IsLegalStep state step) → (opened : IsOpened state step.event) → next_now state step.event opened ≡ Asks job.call → job.line ≡ opened.n → job.owner ≡ opened.who → legal.own ≡ [] → shared_behind state step ≡ state.shared → Fits (after state step) job
+new-fits state step job alive faithful legal opened asks line owned none shared_same =
     let view : View = view_of state.shared opened.line in
     let one = asks-one view opened.line.request opened.heard job.call asks in
     let stands = stays-begun state step opened.n opened.line opened.heard alive legal opened.now.stands one (inr none) in
+    let itself : AsksItself opened.line.request job.owner job.line =
+    subst₂ (AsksItself opened.line.request) (sym (owned ∙ opened.owner_is)) (opened.number_is ∙ sym line)
+    (owner-itself opened.line.number opened.line.request (handle_of opened.line state.shared.handles)) in
     left-fits state.shared (after state step) job opened.line opened.heard (ap (λ (k : ℕ). line_at k (after state step).lines) line ∙ stands)
     (λ read. ap (λ (t : Shared). handle_of opened.line t.handles) shared_same)
     (λ read. asks)
     (λ answer. calls_left_fall view opened.line.request opened.heard job.call answer asks)
+    (asks_listed view opened.line.request opened.heard job.call asks, itself, asks-pages view opened.line.request opened.heard job.call (opened.hears faithful) asks)
 
 each-fits : (state : ClientState) → ((k : ℕ) (job : Job) → job_at k state.jobs ≡ Some job → IsOfLine job.owner → job.phase ≢ Gone → Fits state job) → IsFaithful state
-each-fits state fits = record { reads = λ k job stands of_line live. (fits k job stands of_line live).reads; falls = λ k job stands of_line live. (fits k job stands of_line live).falls }
+each-fits state fits = record { reads = λ k job stands of_line live. (fits k job stands of_line live).reads; falls = λ k job stands of_line live. (fits k job stands of_line live).falls; lists = λ k job stands of_line live. (fits k job stands of_line live).lists }
 
 -- a legal step leaves a faithful state faithful
 pub faithful-step : (state : ClientState) (step : Step) → IsAlive state → IsFaithful state → IsLegalStep state step → IsFaithful (after state step)
@@ -322,7 +331,7 @@ faithful-step state step alive faithful legal = each-fits (after state step) (λ
   where
     go : (k : ℕ) (job : Job) → IsOfLine job.owner → job.phase ≢ Gone → JobIs state step legal.own k job → Fits (after state step) job
     go k job of_line live (OldJob stands) = old-fits state step k job alive faithful legal stands of_line live
-    go k job of_line live (NewJob opened asks line none shared_same) = new-fits state step job alive legal opened asks line none shared_same
+    go k job of_line live (NewJob opened asks line owned none shared_same) = new-fits state step job alive faithful legal opened asks line owned none shared_same
 
 pub faithful-steps : (state : ClientState) (steps : List Step) → IsAlive state → IsFaithful state → Along IsLegalStep after state steps → IsFaithful (fold after state steps)
 faithful-steps state [] alive faithful run = faithful

@@ -12,6 +12,7 @@ pub mod Handles
 pub mod Writers
 pub mod Questions
 pub mod Conversation
+pub mod Pages
 pub mod Turn
 pub mod Work
 pub mod Opened
@@ -27,5 +28,6 @@ pub mod Served
 pub mod Ends
 pub mod Faithful
 pub mod Made
+pub mod Listed
 pub mod Calls
 pub mod Slices

@@ -24,7 +24,7 @@ use Rattle.run_laws.proofs.Conversation.{asks_made, writes-so, ends-so}
 use Rattle.run_laws.proofs.Turn.{Ending, AsksOne, RepliesOne, WritesOn, EndsIt, Rests, line_job}
 use Rattle.run_laws.proofs.Opened.{IsOpened}
 use Rattle.run_laws.proofs.Steps.{next_now, heard_now, StepIs, LineStep, WriterStep, TakeStep, step-is, IsReadyFor, heard-ready, ends-ready, writes-ready}
-use Rattle.run_laws.proofs.Alive.{turned, quiet-jobs, asks-jobs, jobs_behind, alive-step, opening-alive}
+use Rattle.run_laws.proofs.Alive.{turned, quiet-jobs, asks-jobs, jobs_behind, stepped, alive-step, opening-alive}
 
 -- all jobs so far, those that are gone too
 abbrev AllMade : List Job → Type 0
@@ -47,15 +47,15 @@ made-event jobs (Done number position answer) all = made-change number Gone jobs
 made-turned : (state : ClientState) (step : Step) (name : HandleName) (w : Writer) (more : ℕ) (own : List Answered) → IsReadyFor state step.event name w more → TakesTurnOfWriter state step w own → jobs_behind state step ≡ fold drop_one (jobs_at state.jobs step.event ++ jobs_of_writer step w) step.drops → AllMade state.jobs → AllMade (jobs_behind state step)
 made-turned state step name w more own ready takes jobs_are all = subst AllMade (sym jobs_are) ((turned state step name w more own ready takes).made (made-event state.jobs step.event all))
 
-made-line : (state : ClientState) (step : Step) (own : List Answered) (opened : IsOpened state step.event) → IsAlive state → Ending state step opened.line opened.who (next_now state step.event opened) own → AllMade state.jobs → AllMade (jobs_behind state step)
-made-line state step own opened alive ended all = go ended
+made-line : (state : ClientState) (step : Step) (own : List Answered) (opened : IsOpened state step.event) → IsAlive state → AreWithin state.shared.options → Ending state step opened.line opened.who (next_now state step.event opened) own → AllMade state.jobs → AllMade (jobs_behind state step)
+made-line state step own opened alive within ended all = go ended
   where
     quiet : step.asks ≡ [] → step.drops ≡ [] → AllMade (jobs_behind state step)
     quiet no_asks no_drops = subst AllMade (sym (quiet-jobs state step opened no_asks no_drops)) (made-event state.jobs step.event all)
 
     go : Ending state step opened.line opened.who (next_now state step.event opened) own → AllMade (jobs_behind state step)
     go (AsksOne called is asks none no_drops) =
-        let may = asks_made (view_of state.shared opened.line) opened.line.request opened.heard called is in
+        let may = asks_made (view_of state.shared opened.line) opened.line.request opened.heard called within is in
         subst AllMade (sym (asks-jobs state step opened called is asks no_drops)) (all-append (λ (job : Job). MayBeMade job.call) (jobs_at state.jobs step.event) (line_job (length state.jobs + 1) opened.who opened.n called ∷ []) (made-event state.jobs step.event all) (may, tt))
     go (RepliesOne said says no_asks one no_drops) = quiet no_asks no_drops
     go (WritesOn count w answers is takes one) =
@@ -72,17 +72,17 @@ made-taken state event drops asks replies number time from is no_drops all =
     let here : jobs_behind state (record { event = event; drops = drops; asks = asks; replies = replies }) ≡ jobs = ap (λ (e : Event). jobs_behind state (record { event = e; drops = drops; asks = asks; replies = replies })) is ∙ ap (fold drop_one (jobs ++ [])) no_drops ∙ append-nil jobs in
     subst AllMade (sym here) (made-change number (Out from) state.jobs all)
 
-made-step : (state : ClientState) (step : Step) → IsAlive state → IsLegalStep state step → AllMade state.jobs → AllMade (jobs_behind state step)
-made-step state step alive legal all = go (step-is state step alive legal)
+made-step : (state : ClientState) (step : Step) → IsAlive state → AreWithin state.shared.options → IsLegalStep state step → AllMade state.jobs → AllMade (jobs_behind state step)
+made-step state step alive within legal all = go (step-is state step alive legal)
   where
     go : StepIs state step legal.own → AllMade (jobs_behind state step)
-    go (LineStep opened ended) = made-line state step legal.own opened alive ended all
+    go (LineStep opened ended) = made-line state step legal.own opened alive within ended all
     go (WriterStep heard takes) = made-turned state step heard.name (heard_now state step.event heard) 0 legal.own (heard-ready state step.event alive heard) takes (ap (jobs_after state.jobs step) heard.turn) all
     go (TakeStep number time from is found no_asks no_own no_drops) = made-taken state step.event step.drops step.asks step.replies number time from is no_drops all
 
-made-steps : (state : ClientState) (steps : List Step) → IsAlive state → AllMade state.jobs → Along IsLegalStep after state steps → AllMade (fold after state steps).jobs
-made-steps state [] alive all run = all
-made-steps state (step ∷ steps) alive all run = made-steps (after state step) steps (alive-step state step alive run.0) (made-step state step alive run.0 all) run.1
+made-steps : (state : ClientState) (steps : List Step) → IsAlive state → AreWithin state.shared.options → AllMade state.jobs → Along IsLegalStep after state steps → AllMade (fold after state steps).jobs
+made-steps state [] alive within all run = all
+made-steps state (step ∷ steps) alive within all run = made-steps (after state step) steps (alive-step state step alive run.0) (subst AreWithin (sym (stepped state step alive run.0).options) within) (made-step state step alive within run.0 all) run.1
 
 pub calls_made : (options : Opts) (script : List Line) (steps : List Step) (number : ℕ) (job : Job) → AreWithin options → AreRising 0 script → IsRunSoFar options script steps → job_at number (state_after options script steps).jobs ≡ Some job → MayBeMade job.call
-calls_made options script steps number job within rising run stands = all-found job_number (λ (j : Job). MayBeMade j.call) number (state_after options script steps).jobs job (made-steps (opening options script) steps (opening-alive options script within rising) tt run) stands
+calls_made options script steps number job within rising run stands = all-found job_number (λ (j : Job). MayBeMade j.call) number (state_after options script steps).jobs job (made-steps (opening options script) steps (opening-alive options script within rising) within tt run) stands

@@ -5,6 +5,7 @@ use Rattle.mp_types.specs.HandleName.{HandleName}
 use Rattle.bucket_model.specs.declared.call.Call.{Call}
 use Rattle.bucket_model.specs.declared.answer.Brief.{Brief}
 use Rattle.mount_model.specs.declared.request.Request.{Request}
+use Rattle.mount_model.specs.declared.request.Request.TheVariants as request
 use Rattle.mount_model.specs.declared.request.Request.TheVariants.{Await, Sync, Close, Read}
 use Rattle.mount_model.specs.declared.request.Line.{Line}
 use Rattle.mount_model.specs.declared.event.Event.{Event}
@@ -27,6 +28,7 @@ use Rattle.run_laws.specs.Counts.{total, if_line, any_call, is_create, is_part, 
 use Rattle.run_laws.specs.Alive.{if_of_line, live_job, jobs_at_once, jobs_wanted, IsAlive}
 use Rattle.run_laws.specs.Calls.{jobs_of, may_ask}
 use Rattle.run_laws.specs.Faithful.{IsFaithful}
+use Rattle.run_laws.specs.Listings.{AsksItself}
 use Rattle.run_laws.specs.Once.{begins, begun_in}
 use Rattle.run_laws.specs.Served.{IsOfLine}
 use Rattle.run_laws.specs.Uploads.{calls_left_of}
@@ -42,6 +44,7 @@ use Rattle.run_laws.proofs.Asked.{OnlyFor, IsInTurn}
 use Rattle.run_laws.proofs.Handles.{handle-at, name-actor}
 use Rattle.run_laws.proofs.Writers.{stands_as, LinesKeep, keep-begun, keep-heard, SameFor, same-jobs, once-kept, phases-apart}
 use Rattle.run_laws.proofs.Conversation.{one-no-wait, opens-name}
+use Rattle.run_laws.proofs.Pages.{HasHeard, HeardNothing, HeardMore}
 use Rattle.run_laws.proofs.Work.{begin-work, heard-work, gone-work}
 use Rattle.run_laws.proofs.Turn.{IsOpen, of-line}
 
@@ -62,6 +65,11 @@ owner-line number (Read name offset count) None = tt
 owner-line number (Read name offset count) (Some (Reading line version)) = tt
 owner-line number (Read name offset count) (Some (Writing w)) = tt
 owner-line number other handle = tt
+
+-- of a listing, the line's itself
+pub owner-itself : (number : ℕ) (asked : Request) (handle : Option Handle) → AsksItself asked (owner_for number asked handle) number
+owner-itself number (request.List path) handle = refl
+owner-itself number other handle = tt
 
 -- and counts for no writer
 pub line-made : (opened : ℕ) (who : Owner) (count : ℕ) → IsOfLine who → if_writer opened who count ≡ 0
@@ -140,6 +148,7 @@ pub record AnswersLine (state : ClientState) (number position : ℕ) (answer : B
   pub due : IsDue job.line state.lines
   pub lines_are : lines_at state.lines state.jobs (Done number position answer) ≡ change_line job.line (heard (told_by (question_of job.call) answer)) state.lines
   pub who : Owner
+  pub owner_is : who ≡ owner_for due.line.number due.line.request (handle_of due.line state.shared.handles)
   pub of_line : IsOfLine who
   pub turn : turn_at state (Done number position answer) ≡ TurnOf due.line who (next_of (view_of state.shared due.line) due.line.request (with_told (told_by (question_of job.call) answer) due.heard))
 
@@ -154,6 +163,7 @@ answers-due state number position answer may of_line due =
       due = due;
       lines_are = lines_are;
       who = owner_for due.line.number due.line.request (handle_of due.line state.shared.handles);
+      owner_is = refl;
       of_line = owner-line due.line.number due.line.request (handle_of due.line state.shared.handles);
       turn = ap (λ (o : Option Job). turn_of_job state.shared o answer lines) may.stands ∙ turn-line state.shared may.job answer lines of_line ∙ turn-begun state.shared n due.line (with_told told due.heard) lines stands;
     }
@@ -168,6 +178,7 @@ pub record BeginsLine (state : ClientState) (n time : ℕ) : Type 0 where
   pub line : Line
   pub stands : line_at n state.lines ≡ stands_as line Waiting
   pub who : Owner
+  pub owner_is : who ≡ owner_for line.number line.request (handle_of line state.shared.handles)
   pub of_line : IsOfLine who
   pub turn : turn_at state (Begin n time) ≡ TurnOf line who (next_of (view_of state.shared line) line.request nothing_heard)
 
@@ -180,6 +191,7 @@ begins-line state n time alive may =
       line = found.line;
       stands = found.stands;
       who = owner_for found.line.number found.line.request (handle_of found.line state.shared.handles);
+      owner_is = refl;
       of_line = owner-line found.line.number found.line.request (handle_of found.line state.shared.handles);
       turn = turn-begun state.shared n found.line nothing_heard lines stands;
     }
@@ -198,7 +210,9 @@ pub record IsOpened (state : ClientState) (event : Event) : Type 0 where
   pub begins_own : begins n event + begun_in old ≡ 1
   pub begins_other : (m : ℕ) → (m ≡ n → ⊥) → begins m event ≡ 0
   pub calls : IsFaithful state → calls_left line.request heard ≤ may_ask old line.request
+  pub hears : IsFaithful state → HasHeard line.request heard
   pub who : Owner
+  pub owner_is : who ≡ owner_for line.number line.request (handle_of line state.shared.handles)
   pub of_line : IsOfLine who
   pub turn : turn_at state event ≡ TurnOf line who (next_of (view_of state.shared line) line.request heard)
   pub now : IsOpen n line heard (lines_at state.lines state.jobs event) (jobs_at state.jobs event)
@@ -236,7 +250,9 @@ begin-opens state n time alive may =
       begins_own = let same : (n == n) ≡ true = eq-eqb n n refl in rw same refl;
       begins_other = λ m apart. let other : (n == m) ≡ false = ne_eqb n m (λ e. apart (sym e)) in rw other refl;
       calls = λ faithful. omega arith;
+      hears = λ faithful. HeardNothing refl;
       who = found.who;
+      owner_is = found.owner_is;
       of_line = found.of_line;
       turn = found.turn;
       now = now;
@@ -301,7 +317,9 @@ done-opens state number position answer alive may of_line =
       begins_own = refl;
       begins_other = λ m apart. refl;
       calls = λ faithful. let fewer = falls faithful in omega arith;
+      hears = λ faithful. HeardMore due.heard told refl (faithful.lists number may.job may.stands of_line (λ gone. absurd (cc)) (record { line = due.line; phase = Begun due.heard }) due.heard due.stands refl).2;
       who = mine.who;
+      owner_is = mine.owner_is;
       of_line = mine.of_line;
       turn = mine.turn;
       now = subst (λ (t : List Standing). IsOpen n due.line (with_told told due.heard) t (change_job number Gone state.jobs)) (sym mine.lines_are) now;
@@ -345,7 +363,7 @@ pub live-writer : (state : ClientState) (number opened : ℕ) (job : Job) → Is
 live-writer state number opened job alive stands owned live = alive.writers.owned opened (let some = out-one any_call number opened state.jobs job stands owned live in omega arith)
 
 -- whose calls are of its kinds
-live-kinds : (state : ClientState) (number : ℕ) (job : Job) (name : HandleName) (w : Writer) → IsWriter state.lines state.jobs name w → job_at number state.jobs ≡ Some job → job.owner ≡ owner.Writer w.line → job.phase ≢ Gone → kinds job.call ≡ 1
+pub live-kinds : (state : ClientState) (number : ℕ) (job : Job) (name : HandleName) (w : Writer) → IsWriter state.lines state.jobs name w → job_at number state.jobs ≡ Some job → job.owner ≡ owner.Writer w.line → job.phase ≢ Gone → kinds job.call ≡ 1
 live-kinds state number job name w is stands owned live =
     let pending = is.pending in
     let four = is.tallied.pending in

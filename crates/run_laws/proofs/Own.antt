@@ -22,7 +22,7 @@ use Rattle.run_laws.specs.Writers.{awaits_writer}
 use Rattle.run_laws.proofs.Handles.{at-same}
 use Rattle.run_laws.proofs.Writers.{stands_as}
 use Rattle.run_laws.proofs.Conversation.{IsPlain, writes-so, ends-so, replies-plain}
-use Rattle.run_laws.proofs.Turn.{Ending, AsksOne, RepliesOne, WritesOn, EndsIt, Rests, SaysSo, ByItself, MakesDir, RemovesDir, OpensHandle, CreatesFile, GivesData, HasNoMemory, MayLack}
+use Rattle.run_laws.proofs.Turn.{Ending, AsksOne, RepliesOne, WritesOn, EndsIt, Rests, SaysSo, ByItself, MakesDir, RemovesDir, OpensHandle, CreatesFile, ListsEntries, GivesData, HasNoMemory, MayLack}
 use Rattle.run_laws.proofs.Opened.{IsOpened, IsHeard}
 use Rattle.run_laws.proofs.Left.{AnswerIs, NoAnswer, OneAnswer, answer-is}
 use Rattle.run_laws.proofs.Steps.{next_now, heard_now, alone-begun, StepIs, LineStep, WriterStep, TakeStep, step-is, IsReadyFor, heard-ready, ends-ready, writes-ready}
@@ -52,6 +52,7 @@ says-on next said (MakesDir key) is = absurd (cc)
 says-on next said (RemovesDir key) is = absurd (cc)
 says-on next said (OpensHandle version) is = absurd (cc)
 says-on next said (CreatesFile key) is = absurd (cc)
+says-on next said (ListsEntries entries) is = absurd (cc)
 says-on next said (GivesData count bytes) is = absurd (cc)
 says-on next said (HasNoMemory lacked may) is = subst MayLack is may
 
@@ -64,6 +65,7 @@ is-said state event opened next said is (MakesDir key) = SaysPlain tt
 is-said state event opened next said is (RemovesDir key) = SaysPlain tt
 is-said state event opened next said is (OpensHandle version) = SaysPlain tt
 is-said state event opened next said is (CreatesFile key) = SaysPlain tt
+is-said state event opened next said is (ListsEntries entries) = SaysPlain tt
 is-said state event opened next said is (GivesData count bytes) = SaysData opened count bytes opened.number_is is refl
 is-said state event opened next said is (HasNoMemory lacked may) = SaysPlain tt
 

@@ -76,6 +76,7 @@ stays-hears (call.Complete id parts) other u = stays-failure (errno_of other) u
 stays-hears (call.Abort id) said u = record { closing = refl; not_open = λ e. e }
 stays-hears (call.Head key) said u = stays-failure (errno_of said) u
 stays-hears (call.Probe key) said u = stays-failure (errno_of said) u
+stays-hears (call.List prefix after max) said u = stays-failure (errno_of said) u
 stays-hears (call.Get key etag from to) said u = stays-failure (errno_of said) u
 stays-hears (call.Delete key) said u = stays-failure (errno_of said) u
 stays-hears (call.Put key bytes) said u = stays-failure (errno_of said) u
@@ -120,6 +121,7 @@ pending-hears (call.Complete id parts) other u = pending-fails (errno_of other) 
 pending-hears (call.Abort id) said u = refl
 pending-hears (call.Head key) said u = pending-fails (errno_of said) (with_back u)
 pending-hears (call.Probe key) said u = pending-fails (errno_of said) (with_back u)
+pending-hears (call.List prefix after max) said u = pending-fails (errno_of said) (with_back u)
 pending-hears (call.Get key etag from to) said u = pending-fails (errno_of said) (with_back u)
 pending-hears (call.Delete key) said u = pending-fails (errno_of said) (with_back u)
 pending-hears (call.Put key bytes) said u = pending-fails (errno_of said) (with_back u)
@@ -180,6 +182,7 @@ upload-hears (call.Complete id parts) other u h = upload-failure (errno_of other
 upload-hears (call.Abort id) said u h = record { part_low = h.part_low; fits = h.fits; place = h.place }
 upload-hears (call.Head key) said u h = upload-failure (errno_of said) u h
 upload-hears (call.Probe key) said u h = upload-failure (errno_of said) u h
+upload-hears (call.List prefix after max) said u h = upload-failure (errno_of said) u h
 upload-hears (call.Get key etag from to) said u h = upload-failure (errno_of said) u h
 upload-hears (call.Delete key) said u h = upload-failure (errno_of said) u h
 upload-hears (call.Put key bytes) said u h = upload-failure (errno_of said) u h
@@ -338,6 +341,7 @@ shrinks-hears (call.Complete id parts) other u = shrinks-failure (errno_of other
 shrinks-hears (call.Abort id) said u = record { rest = omega arith; asked = refl }
 shrinks-hears (call.Head key) said u = shrinks-failure (errno_of said) u
 shrinks-hears (call.Probe key) said u = shrinks-failure (errno_of said) u
+shrinks-hears (call.List prefix after max) said u = shrinks-failure (errno_of said) u
 shrinks-hears (call.Get key etag from to) said u = shrinks-failure (errno_of said) u
 shrinks-hears (call.Delete key) said u = shrinks-failure (errno_of said) u
 shrinks-hears (call.Put key bytes) said u = shrinks-failure (errno_of said) u

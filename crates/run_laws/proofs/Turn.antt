@@ -2,6 +2,7 @@
 use Rattle.std.proofs.Common.{◌≡◌, ℕ, ◌+◌, List, [], ◌∷◌, ◌++◌, map, length, Bool, true, false, ◌==◌, Some, inl, inr, refl, sym, ap, ◌∙◌, subst, arith, eqb-true, eq-eqb, ne_eqb}
 use Rattle.std.proofs.lemmas.Bool.{eqb-false}
 use Rattle.mp_types.specs.declared.errno.Errno.TheVariants.{Enomem}
+use Rattle.mp_rules.specs.declared.entry.DirEntry.{DirEntry}
 use Rattle.bucket_model.specs.declared.call.Call.{Call}
 use Rattle.mount_model.specs.declared.request.Reply.{Reply}
 use Rattle.mount_model.specs.declared.request.Reply.TheVariants as reply
@@ -16,7 +17,7 @@ use Rattle.mount_model.specs.declared.handle.Version.{Version}
 use Rattle.mount_model.specs.Step.{Step}
 use Rattle.mount_model.specs.Handles.{Writer}
 use Rattle.mount_model.specs.State.{ClientState, Job, Ready, line_at, change_line}
-use Rattle.mount_model.specs.Conversation.{Next, Asks, Replies, Makes, Removes, Opens, Creates, Gives, Writes, Ends, Waits}
+use Rattle.mount_model.specs.Conversation.{Next, Asks, Replies, Makes, Removes, Opens, Creates, Lists, Gives, Writes, Ends, Waits}
 use Rattle.mount_model.specs.Run.{AreRising, asked_of, TakesTurnOfLine, TakesTurnOfWriter}
 use Rattle.run_laws.specs.Counts.{if_line}
 use Rattle.run_laws.specs.Alive.{AreNumbered, if_of_line, live_job, live_jobs, jobs_at_once, jobs_wanted, AreOrderly}
@@ -34,6 +35,7 @@ MayLack (Asks called) = Unit {0}
 MayLack (Makes key) = Unit {0}
 MayLack (Opens version) = Unit {0}
 MayLack (Creates key) = Unit {0}
+MayLack (Lists entries) = Unit {0}
 MayLack (Writes count writer) = Unit {0}
 MayLack other = ⊥
 
@@ -44,6 +46,7 @@ pub data SaysSo : Next → Reply → Type 0 where
   RemovesDir : (key : List ℕ) → SaysSo (Removes key) reply.Success
   OpensHandle : (version : Version) → SaysSo (Opens version) (reply.Open version.size)
   CreatesFile : (key : List ℕ) → SaysSo (Creates key) (reply.Open 0)
+  ListsEntries : (entries : List DirEntry) → SaysSo (Lists entries) (reply.Listed entries)
   GivesData : (count : ℕ) (bytes : List ℕ) → SaysSo (Gives count) (reply.Data bytes)
   HasNoMemory : (next : Next) → MayLack next → SaysSo next (reply.Failed Enomem)
 
@@ -65,6 +68,8 @@ ending state step line who (Opens version) own (inl t) = RepliesOne (reply.Open 
 ending state step line who (Opens version) own (inr t) = RepliesOne (reply.Failed Enomem) (HasNoMemory (Opens version) tt) t.0 t.1 t.2
 ending state step line who (Creates key) own (inl t) = RepliesOne (reply.Open 0) (CreatesFile key) t.0 t.1 t.2
 ending state step line who (Creates key) own (inr t) = RepliesOne (reply.Failed Enomem) (HasNoMemory (Creates key) tt) t.0 t.1 t.2
+ending state step line who (Lists entries) own (inl t) = RepliesOne (reply.Listed entries) (ListsEntries entries) t.0 t.1 t.2
+ending state step line who (Lists entries) own (inr t) = RepliesOne (reply.Failed Enomem) (HasNoMemory (Lists entries) tt) t.0 t.1 t.2
 ending state step line who (Gives count) own t = RepliesOne (reply.Data t.0) (GivesData count t.0) t.2.0 t.2.1 t.2.2
 ending state step line who (Writes count writer) own (inl t) = WritesOn count writer t.0 refl t.1 t.2
 ending state step line who (Writes count writer) own (inr t) = RepliesOne (reply.Failed Enomem) (HasNoMemory (Writes count writer) tt) t.0 t.1 t.2

@@ -10,6 +10,7 @@ use Rattle.mount_model.specs.declared.standing.Standing.{Standing}
 use Rattle.mount_model.specs.Heard.{with_told, question_of, told_by}
 use Rattle.mount_model.specs.Conversation.{Asks}
 use Rattle.mount_model.specs.State.{ClientState, Job, Gone, line_at, job_at, next_in}
+use Rattle.run_laws.specs.Listings.{MayList, AsksItself, HeardPages}
 use Rattle.run_laws.specs.Served.{IsOfLine}
 use Rattle.run_laws.specs.Work.{calls_left}
 
@@ -25,7 +26,12 @@ MakesRead state job = (standing : Standing) → line_at job.line state.lines ≡
 abbrev pub LeavesFewer : ClientState → Job → Type 0
 LeavesFewer state job = (standing : Standing) (heard : Heard) (answer : Brief) → line_at job.line state.lines ≡ Some standing → standing.phase ≡ Begun heard → calls_left standing.line.request (with_told (told_by (question_of job.call) answer) heard) < calls_left standing.line.request heard
 
+-- the job lists only where its line does, and a line that lists asks for itself and has heard nothing but pages
+abbrev pub MakesListing : ClientState → Job → Type 0
+MakesListing state job = (standing : Standing) (heard : Heard) → line_at job.line state.lines ≡ Some standing → standing.phase ≡ Begun heard → MayList job.call standing.line.request × AsksItself standing.line.request job.owner job.line × HeardPages standing.line.request heard.answers
+
 -- so it is with each job of a line's own that is ready or out
 pub record IsFaithful (state : ClientState) : Type 0 where
   pub reads : (number : ℕ) (job : Job) → job_at number state.jobs ≡ Some job → IsOfLine job.owner → job.phase ≢ Gone → MakesRead state job
   pub falls : (number : ℕ) (job : Job) → job_at number state.jobs ≡ Some job → IsOfLine job.owner → job.phase ≢ Gone → LeavesFewer state job
+  pub lists : (number : ℕ) (job : Job) → job_at number state.jobs ≡ Some job → IsOfLine job.owner → job.phase ≢ Gone → MakesListing state job

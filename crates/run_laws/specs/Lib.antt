@@ -5,6 +5,7 @@ pub mod Alive
 pub mod Work
 pub mod Calls
 pub mod Served
+pub mod Listings
 pub mod Faithful
 pub mod Once
 pub mod Order

@@ -1,5 +1,5 @@
 -- How many calls a request may still make, and how much is left to do in a state.
-use Rattle.std.specs.Prelude.{ℕ, ◌+◌, ◌*◌, List, [], ◌∷◌, ◌++◌, length, ◌==◌, if◌then◌else◌, Option, Some, None, Result, Ok, Err}
+use Rattle.std.specs.Prelude.{ℕ, ◌+◌, ◌*◌, ◌-◌, List, [], ◌∷◌, ◌++◌, length, ◌==◌, if◌then◌else◌, Option, Some, None, Result, Ok, Err}
 use Rattle.std.specs.FinMap as table
 use Rattle.mp_types.specs.HandleName.{HandleName}
 use Rattle.mp_types.specs.Content.{bytes_of}
@@ -11,6 +11,7 @@ use Rattle.mp_rules.specs.declared.facts.Fact.{Fact}
 use Rattle.mp_rules.specs.Walk.{fact_in}
 use Rattle.bucket_model.specs.declared.answer.Brief.{Brief}
 use Rattle.mount_model.specs.declared.request.Request.{Request}
+use Rattle.mount_model.specs.declared.request.Request.TheVariants as request
 use Rattle.mount_model.specs.declared.request.Request.TheVariants.{Put, Stat, OpenRead, OpenWrite, OpenTruncate, Read, Write, Delete, MakeDir, RemoveDir, Unlink}
 use Rattle.mount_model.specs.declared.request.Line.{Line}
 use Rattle.mount_model.specs.declared.handle.Handle.TheVariants.{Writing}
@@ -19,6 +20,7 @@ use Rattle.mount_model.specs.declared.standing.Phase.{Phase}
 use Rattle.mount_model.specs.declared.standing.Phase.TheVariants.{Waiting, Begun, Replied}
 use Rattle.mount_model.specs.declared.standing.Standing.{Standing}
 use Rattle.mount_model.specs.Heard.{nothing_heard}
+use Rattle.mount_model.specs.Conversation.{max_pages}
 use Rattle.mount_model.specs.Handles.{Handle}
 use Rattle.mount_model.specs.State.{ClientState, Job, JobPhase, Ready, Out, Gone, handle_name}
 use Rattle.run_laws.specs.Counts.{total}
@@ -62,10 +64,16 @@ abbrev pub path_left : ℕ → Result (List (List ℕ)) PathFault → Heard → 
 path_left behind (Err why) heard = 0
 path_left behind (Ok names) heard = unless_answered heard.answers (open_along (fact_in heard.facts) names + behind)
 
+-- A listing's pages come behind them. Each page is an answer, and with the first one no question is open.
+abbrev pub list_left : Result (List (List ℕ)) PathFault → Heard → ℕ
+list_left (Err why) heard = 0
+list_left (Ok names) heard = unless_answered heard.answers (open_along (fact_in heard.facts) names) + (max_pages - length heard.answers)
+
 -- a writer's calls aren't its lines' own
 abbrev pub calls_left : Request → Heard → ℕ
 calls_left (Put key content) heard = one_left heard.answers
 calls_left (Stat path) heard = path_left 0 (path_of path) heard
+calls_left (request.List path) heard = list_left (path_of path) heard
 calls_left (OpenRead name path) heard = path_left 0 (path_of path) heard
 calls_left (OpenWrite name path) heard = path_left 0 (path_of path) heard
 calls_left (OpenTruncate name path) heard = path_left 0 (path_of path) heard

@@ -13,9 +13,12 @@ ghost use Rattle.mp_types.specs.Path.{path_of};
 ghost use Rattle.mp_types.specs.declared.octets.Data.{Data};
 ghost use Rattle.mp_types.specs.declared.path.PathFault.{PathFault};
 ghost use Rattle.bucket_model.specs.declared.call.Call.{Call};
+ghost use Rattle.bucket_model.specs.declared.call.Call.TheVariants as call;
+ghost use Rattle.bucket_model.specs.declared.page.Page.{Page};
 ghost use Rattle.bucket_model.specs.declared.answer.Brief.{Brief};
+ghost use Rattle.bucket_model.specs.declared.answer.Brief.TheVariants as answer;
 ghost use Rattle.bucket_model.specs.declared.answer.Answer.{Answer};
-ghost use Rattle.bucket_model.specs.Answers.{brief_of, bytes_in, MayBeMade};
+ghost use Rattle.bucket_model.specs.Answers.{brief_of, bytes_in, fits, MayBeMade};
 ghost use Rattle.bucket_model.specs.Bucket.{ObjectVersion, IsSlice};
 ghost use Rattle.mount_model.specs.declared.handle.Handle.TheVariants.{Writing};
 ghost use Rattle.mount_model.specs.declared.handle.Waiter.TheVariants as waiter;
@@ -28,7 +31,7 @@ ghost use Rattle.mount_model.specs.declared.standing.Heard.{Heard};
 ghost use Rattle.mount_model.specs.declared.standing.Phase.TheVariants.{Begun};
 ghost use Rattle.mount_model.specs.declared.standing.Standing.{Standing};
 ghost use Rattle.mount_model.specs.Heard.{nothing_heard, with_told, question_of, told_by};
-ghost use Rattle.mount_model.specs.Conversation.{View, Asks, next_of};
+ghost use Rattle.mount_model.specs.Conversation.{View, Asks, max_pages, next_of};
 ghost use Rattle.mount_model.specs.Handles.{Writer};
 ghost use Rattle.mount_model.specs.Writers.{has_failed};
 ghost use Rattle.mount_model.specs.Step.{Step};
@@ -39,6 +42,7 @@ ghost use Rattle.run_laws.specs.Alive.{IsAlive};
 ghost use Rattle.run_laws.specs.Calls.{jobs_of};
 ghost use Rattle.run_laws.specs.Counts.{is_abort};
 ghost use Rattle.run_laws.specs.Faithful.{IsRead, IsFaithful};
+ghost use Rattle.run_laws.specs.Listings.{HasListing};
 ghost use Rattle.run_laws.specs.Order.{IsInOrder};
 ghost use Rattle.run_laws.specs.Once.{begins_in, replies_in, replied_in, for_phase};
 ghost use Rattle.run_laws.specs.Served.{IsOfLine, IsOwned, HasJob};
@@ -95,16 +99,24 @@ pub fn each_answer_leaves_fewer_calls()
     ensures { (options : Opts) (script : List Line) (steps : List Step) (number : ℕ) (job : Job) (standing : Standing) (heard : Heard) (answer : Brief) → AreWithin options → AreRising 0 script → IsRunSoFar options script steps → job_at number (state_after options script steps).jobs ≡ Some job → IsOfLine job.owner → job.phase ≢ Gone → line_at job.line (state_after options script steps).lines ≡ Some standing → standing.phase ≡ Begun heard → calls_left standing.line.request (with_told (told_by (question_of job.call) answer) heard) < calls_left standing.line.request heard }
 {}
 
-/// Each step keeps these two laws, and so they hold after each run.
+/// A job that lists and is ready or out is its line's own, no writer's: the line has begun to list the directory with that
+/// prefix, and has heard nothing but pages, fewer than the most. So it is with each job that a page may answer.
+pub fn each_listing_has_its_line()
+    ensures asked { (options : Opts) (script : List Line) (steps : List Step) (number : ℕ) (job : Job) (prefix after : List ℕ) (max : ℕ) → AreWithin options → AreRising 0 script → IsRunSoFar options script steps → job_at number (state_after options script steps).jobs ≡ Some job → job.phase ≢ Gone → job.call ≡ call.List prefix after max → HasListing (state_after options script steps) job }
+    ensures answered { (options : Opts) (script : List Line) (steps : List Step) (number : ℕ) (job : Job) (page : Page) → AreWithin options → AreRising 0 script → IsRunSoFar options script steps → job_at number (state_after options script steps).jobs ≡ Some job → job.phase ≢ Gone → fits job.call (answer.Page page) ≡ true → HasListing (state_after options script steps) job }
+{}
+
+/// Each step keeps these laws, and so they hold after each run.
 pub fn each_job_is_faithful()
     ensures step { (state : ClientState) (step : Step) → IsAlive state → IsFaithful state → IsLegalStep state step → IsFaithful (after state step) }
     ensures run { (options : Opts) (script : List Line) (steps : List Step) → AreWithin options → AreRising 0 script → IsRunSoFar options script steps → IsFaithful (state_after options script steps) }
 {}
 
-/// No job asks for an empty range, a part's number is one that the bucket takes, and an object is made of at least one
-/// part. This holds of all jobs so far, those that are gone too.
+/// No job asks for an empty range, a page has room for an item and for no more than the bucket gives, a part's number is
+/// one that the bucket takes, and an object is made of at least one part. This holds of all jobs so far, those that are
+/// gone too.
 pub fn calls_may_be_made()
-    ensures asked { (view : View) (request : Request) (heard : Heard) (called : Call) → next_of view request heard ≡ Asks called → MayBeMade called }
+    ensures asked { (view : View) (request : Request) (heard : Heard) (called : Call) → AreWithin view.options → next_of view request heard ≡ Asks called → MayBeMade called }
     ensures run { (options : Opts) (script : List Line) (steps : List Step) (number : ℕ) (job : Job) → AreWithin options → AreRising 0 script → IsRunSoFar options script steps → job_at number (state_after options script steps).jobs ≡ Some job → MayBeMade job.call }
 {}
 
@@ -139,8 +151,9 @@ pub fn each_run_ends()
 {}
 
 /// A line asks for at most so many jobs of its own as its request has calls: a put, a delete and a read have 1, a stat, an
-/// open of each kind and the making and the removal of a directory at most 2 for each name of the path, an unlink 1 more,
-/// and a write, an fsync, a close and an await none. A faulty path needs none either.
+/// open of each kind and the making and the removal of a directory at most 2 for each name of the path, an unlink 1 more, a
+/// listing as many more as it may have pages, and a write, an fsync, a close and an await none. A faulty path needs none
+/// either.
 pub fn calls_are_few()
     ensures run { (options : Opts) (script : List Line) (steps : List Step) → AreWithin options → AreRising 0 script → IsRunSoFar options script steps → AllByRecursion (λ line. jobs_of line.number (state_after options script steps).jobs ≤ calls_left line.request nothing_heard) script }
     ensures falls { (view : View) (request : Request) (heard : Heard) (called : Call) (answer : Brief) → next_of view request heard ≡ Asks called → calls_left request (with_told (told_by (question_of called) answer) heard) < calls_left request heard }
@@ -152,6 +165,7 @@ pub fn calls_are_few()
     ensures make { (path : List ℕ) (names : List (List ℕ)) → path_of path ≡ Ok names → calls_left (request.MakeDir path) nothing_heard ≤ 2 * length names }
     ensures remove { (path : List ℕ) (names : List (List ℕ)) → path_of path ≡ Ok names → calls_left (request.RemoveDir path) nothing_heard ≤ 2 * length names }
     ensures unlink { (path : List ℕ) (names : List (List ℕ)) → path_of path ≡ Ok names → calls_left (request.Unlink path) nothing_heard ≤ 2 * length names + 1 }
+    ensures list { (path : List ℕ) (names : List (List ℕ)) → path_of path ≡ Ok names → calls_left (request.List path) nothing_heard ≤ 2 * length names + max_pages }
     ensures read { (name offset count : ℕ) → calls_left (request.Read name offset count) nothing_heard ≡ 1 }
     ensures delete { (key : List ℕ) → calls_left (request.Delete key) nothing_heard ≡ 1 }
     ensures faulty { (path : List ℕ) (why : PathFault) → path_of path ≡ Err why → calls_left (request.Stat path) nothing_heard ≡ 0 }
@@ -161,6 +175,7 @@ pub fn calls_are_few()
     ensures faulty_make { (path : List ℕ) (why : PathFault) → path_of path ≡ Err why → calls_left (request.MakeDir path) nothing_heard ≡ 0 }
     ensures faulty_remove { (path : List ℕ) (why : PathFault) → path_of path ≡ Err why → calls_left (request.RemoveDir path) nothing_heard ≡ 0 }
     ensures faulty_unlink { (path : List ℕ) (why : PathFault) → path_of path ≡ Err why → calls_left (request.Unlink path) nothing_heard ≡ 0 }
+    ensures faulty_list { (path : List ℕ) (why : PathFault) → path_of path ≡ Err why → calls_left (request.List path) nothing_heard ≡ 0 }
     ensures writes { (name offset : ℕ) (content : Data) → calls_left (request.Write name offset content) nothing_heard ≡ 0 }
     ensures syncs { (name : ℕ) → calls_left (request.Sync name) nothing_heard ≡ 0 }
     ensures closes { (name : ℕ) → calls_left (request.Close name) nothing_heard ≡ 0 }

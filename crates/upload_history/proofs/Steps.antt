@@ -3,6 +3,7 @@ use Rattle.std.proofs.Common.{◌≡◌, ◌≢◌, ℕ, List, Bool, true, false
 use Rattle.std.proofs.lemmas.Bool.{cases_eq}
 use Rattle.std.specs.FinMap as map
 use Rattle.bucket_model.specs.declared.call.Call.{Call}
+use Rattle.bucket_model.specs.declared.call.Call.TheVariants as call
 use Rattle.bucket_model.specs.declared.call.Call.TheVariants.{Head, Probe, Get, Delete, Put, Create, Part, Complete, Abort}
 use Rattle.bucket_model.specs.declared.answer.Brief.{Brief}
 use Rattle.bucket_model.specs.declared.history.Name.{Name}
@@ -28,6 +29,7 @@ pub data Touches (upload : ℕ) (called : Call) : Type 0 where
 pub touches : (upload : ℕ) (called : Call) → Touches upload called
 touches upload (Head key) = Leaves tt
 touches upload (Probe key) = Leaves tt
+touches upload (call.List prefix after max) = Leaves tt
 touches upload (Get key etag from to) = Leaves tt
 touches upload (Delete key) = Leaves tt
 touches upload (Put key bytes) = Leaves tt
@@ -73,6 +75,7 @@ leaves-entry : (upload : ℕ) (state : BucketState) (called : Call) (answer : Br
 leaves-entry upload state called answer false made elsewhere apart = refl
 leaves-entry upload state (Head key) answer true made elsewhere apart = refl
 leaves-entry upload state (Probe key) answer true made elsewhere apart = refl
+leaves-entry upload state (call.List prefix after max) answer true made elsewhere apart = refl
 leaves-entry upload state (Get key etag from to) answer true made elsewhere apart = refl
 leaves-entry upload state (Delete key) answer true made elsewhere apart = refl
 leaves-entry upload state (Put key bytes) answer true made elsewhere apart = puts upload state key bytes answer made

@@ -24,7 +24,7 @@ use Rattle.mount_model.specs.declared.standing.Phase.TheVariants.{Replied}
 use Rattle.mount_model.specs.declared.standing.Standing.{Standing}
 use Rattle.mount_model.specs.Step.{Step}
 use Rattle.mount_model.specs.Handles.{Writer}
-use Rattle.mount_model.specs.Conversation.{Next, Asks, Replies, Makes, Removes, Opens, Creates, Gives, Writes, Ends, Waits}
+use Rattle.mount_model.specs.Conversation.{Next, Asks, Replies, Makes, Removes, Opens, Creates, Lists, Gives, Writes, Ends, Waits}
 use Rattle.mount_model.specs.State.{ClientState, Job, job_at, line_at, change_line, lines_at, with_answered, with_replies, view_of, handle_name, TurnOf, turn_at, after}
 use Rattle.mount_model.specs.Run.{is_among, IsLegalStep}
 use Rattle.mount_model.specs.Tied.{HasEntry}
@@ -100,6 +100,7 @@ accepts state step line alive legal = go (step-is state step alive legal)
         by (Removes key) is turn = NoBytes turn
         by (Opens version) is turn = NoBytes turn
         by (Creates key) is turn = NoBytes turn
+        by (Lists entries) is turn = NoBytes turn
         by (Gives count) is turn = NoBytes turn
         by (Ends w) is turn = NoBytes turn
         by Waits is turn = NoBytes turn

@@ -262,6 +262,7 @@ module _ (log : List Logged) (places now : List Place) (jobs : List Job) (opened
   heard-filled position (call.Abort named) said calls a is = given-heard position named said calls a is
   heard-filled position (call.Head other) said calls a is = failed-heard position said (errno_of said) a is
   heard-filled position (call.Probe other) said calls a is = failed-heard position said (errno_of said) a is
+  heard-filled position (call.List prefix after max) said calls a is = failed-heard position said (errno_of said) a is
   heard-filled position (call.Get other etag from to) said calls a is = failed-heard position said (errno_of said) a is
   heard-filled position (call.Delete other) said calls a is = failed-heard position said (errno_of said) a is
   heard-filled position (call.Put other bytes) said calls a is = failed-heard position said (errno_of said) a is

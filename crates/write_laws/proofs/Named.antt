@@ -1,7 +1,7 @@
 -- What a line does next that names the handle of a writer, and what lines ask for on their own.
 use Rattle.std.proofs.Common.{◌≡◌, ℕ, ◌+◌, ◌*◌, List, [], ◌∷◌, length, Bool, true, false, not, ◌==◌, nat_lt, if◌then◌else◌, Option, Some, None, Result, Ok, Err, refl, sym, ap, subst}
 use Rattle.mp_types.specs.declared.errno.Errno.{Errno}
-use Rattle.mp_types.specs.declared.errno.Errno.TheVariants.{Ebadf, Einval, Efbig, Eisdir, Emfile, Enotempty, Eperm}
+use Rattle.mp_types.specs.declared.errno.Errno.TheVariants.{Ebadf, Einval, Efbig, Eisdir, Emfile, Enotempty, Eoverflow, Eperm}
 use Rattle.mp_types.specs.declared.path.PathFault.{PathFault}
 use Rattle.mp_types.specs.declared.octets.Data.{Data}
 use Rattle.mp_types.specs.HandleName.{max_handles}
@@ -14,14 +14,19 @@ use Rattle.mp_rules.specs.declared.facts.Question.TheVariants as question
 use Rattle.mp_rules.specs.declared.facts.Known.{Known}
 use Rattle.mp_rules.specs.Walk.{Decision, Need, Is, Refused, fact_in, walk}
 use Rattle.mp_rules.specs.Local.{LocalNames, local_at, has_name_below}
+use Rattle.listing_rules.specs.Names.{listing_of, prefix_of}
+use Rattle.listing_rules.specs.Pages.{items_of, last_text}
 use Rattle.bucket_model.specs.declared.call.Call.{Call}
+use Rattle.bucket_model.specs.declared.page.Page.{Page}
 use Rattle.bucket_model.specs.declared.answer.Brief.{Brief}
+use Rattle.bucket_model.specs.declared.answer.Brief.TheVariants as answer
 use Rattle.bucket_model.specs.declared.answer.Brief.TheVariants.{Missing, Bytes, Changed, Gone, Made}
 use Rattle.bucket_model.specs.Answers.{max_parts}
 use Rattle.upload_rules.specs.declared.upload.UpState.{UpState}
 use Rattle.upload_rules.specs.declared.upload.UpState.TheVariants as state
 use Rattle.upload_rules.specs.Upload.{written, with_bytes}
 use Rattle.mount_model.specs.declared.request.Request.{Request}
+use Rattle.mount_model.specs.declared.request.Request.TheVariants as request
 use Rattle.mount_model.specs.declared.request.Request.TheVariants.{Put, Await, Stat, OpenRead, OpenWrite, OpenTruncate, Read, Write, Sync, Close, Delete, MakeDir, RemoveDir, Unlink}
 use Rattle.mount_model.specs.declared.request.Reply.TheVariants as reply
 use Rattle.mount_model.specs.declared.handle.Handle.TheVariants.{Reading, Writing}
@@ -31,7 +36,7 @@ use Rattle.mount_model.specs.declared.handle.Waiter.TheVariants as waiter
 use Rattle.mount_model.specs.declared.standing.Heard.{Heard}
 use Rattle.mount_model.specs.Heard.{call_of}
 use Rattle.mount_model.specs.Handles.{Handle, Writer, name_in}
-use Rattle.mount_model.specs.Conversation.{Next, Asks, Replies, Removes, Opens, Creates, Writes, Ends, View, Range, range_in, fails, put_next, delete_next, at_path, along, stat_at, stat_next, opens_if, open_at, create_at, open_next, make_at, make_next, remove_at, remove_next, unlink_at, unlink_next, range_next, read_next, with_upload, waited_for, write_at, write_to, write_next, sync_next, close_next, next_of}
+use Rattle.mount_model.specs.Conversation.{Next, Asks, Replies, Removes, Opens, Creates, Lists, Writes, Ends, View, Range, range_in, fails, put_next, delete_next, at_path, along, stat_at, stat_next, opens_if, open_at, create_at, open_next, make_at, make_next, remove_at, remove_next, unlink_at, unlink_next, max_pages, pages_in, last_of, asks_page, behind_page, behind_answer, list_at, list_next, range_next, read_next, with_upload, waited_for, write_at, write_to, write_next, sync_next, close_next, next_of}
 use Rattle.mount_model.specs.Written.{content_in}
 use Rattle.run_laws.specs.Writers.{waiting_line}
 use Rattle.run_laws.proofs.Conversation.{ends_as}
@@ -78,6 +83,7 @@ named-next view (Close own) heard name w names live = HasEnd (waiter.Close view.
 named-next view (Put key content) heard name w names live = absurd (cc)
 named-next view Await heard name w names live = absurd (cc)
 named-next view (Stat path) heard name w names live = absurd (cc)
+named-next view (request.List path) heard name w names live = absurd (cc)
 named-next view (Delete key) heard name w names live = absurd (cc)
 named-next view (MakeDir path) heard name w names live = absurd (cc)
 named-next view (RemoveDir path) heard name w names live = absurd (cc)
@@ -189,6 +195,34 @@ unlinks-none view (Ok names) heard = go heard.facts heard.answers
     go facts (Gone ∷ answers) = tt
     go facts (other ∷ answers) = along-none view (fails Eisdir) (unlink_at view.options.allow_delete (joined names)) names (record { facts = facts; answers = other ∷ answers }) tt (unlink-none view.options.allow_delete (joined names))
 
+list-none : (first : Next) (entry : Entry) → NamesNone first → NamesNone (list_at first entry)
+list-none first RemoteDir none = none
+list-none first LocalDir none = none
+list-none first (LocalFile size) none = tt
+list-none first (File etag size) none = tt
+list-none first Nothing none = tt
+
+page-none : (view : View) (prefix : List ℕ) (answers : List Brief) (last : Page) → NamesNone (behind_page view prefix answers last)
+page-none view prefix answers last =
+    let next : Next = asks_page view prefix (last_text [] last.items) in
+    let more : Next = if nat_lt (length answers) max_pages then next else fails Eoverflow in
+    if-none (not last.more) (Lists (listing_of prefix (items_of (pages_in answers)) view.names)) more tt (if-none (nat_lt (length answers) max_pages) next (fails Eoverflow) refl tt)
+
+answer-none : (view : View) (prefix : List ℕ) (answers : List Brief) (last : Brief) → NamesNone (behind_answer view prefix answers last)
+answer-none view prefix answers (answer.Page page) = page-none view prefix answers page
+answer-none view prefix answers other = tt
+
+lists-none : (view : View) (path : Result (List (List ℕ)) PathFault) (heard : Heard) → NamesNone (list_next view path heard)
+lists-none view (Err why) heard = tt
+lists-none view (Ok names) heard = go heard.facts heard.answers
+  where
+    first : Next
+    first = asks_page view (prefix_of names) []
+
+    go : (facts : List Known) (answers : List Brief) → NamesNone (list_next view (Ok names) (record { facts = facts; answers = answers }))
+    go facts [] = along-none view first (list_at first) names (record { facts = facts; answers = [] }) refl (λ entry. list-none first entry refl)
+    go facts (answer ∷ answers) = answer-none view (prefix_of names) (answer ∷ answers) (last_of answer answers)
+
 range-none : (version : Version) (o : Option Range) (answers : List Brief) → NamesNone (range_next version o answers)
 range-none version None answers = tt
 range-none version (Some range) [] = refl
@@ -226,6 +260,7 @@ next-none : (view : View) (request : Request) (heard : Heard) → NamesNone (nex
 next-none view (Put key content) heard = put-none key (bytes_of content) heard.answers
 next-none view Await heard = tt
 next-none view (Stat path) heard = stats-none view (path_of path) heard
+next-none view (request.List path) heard = lists-none view (path_of path) heard
 next-none view (OpenRead name path) heard = opening-none open_at open-none view view.handle (path_of path) heard
 next-none view (OpenWrite name path) heard = opening-none (create_at false) (create-none false) view view.handle (path_of path) heard
 next-none view (OpenTruncate name path) heard = opening-none (create_at view.options.allow_overwrite) (create-none view.options.allow_overwrite) view view.handle (path_of path) heard

@@ -20,7 +20,7 @@ use Rattle.mount_model.specs.declared.event.Owner.TheVariants as owner
 use Rattle.mount_model.specs.declared.event.Answered.{Answered}
 use Rattle.mount_model.specs.Step.{Step}
 use Rattle.mount_model.specs.Handles.{Handle, Writer}
-use Rattle.mount_model.specs.Conversation.{Next, Asks, Replies, Makes, Removes, Opens, Creates, Gives, Writes, Ends, Waits}
+use Rattle.mount_model.specs.Conversation.{Next, Asks, Replies, Makes, Removes, Opens, Creates, Lists, Gives, Writes, Ends, Waits}
 use Rattle.mount_model.specs.State.{Shared, ClientState, Job, job_at, jobs_at, view_of, handle_name, Turn, TurnOf, turn_at, behind_step, jobs_of_writer, jobs_of_line, jobs_after, with_names, writes_first, writer_left, is_answered, by_reply, reply_in, shared_after, after}
 use Rattle.mount_model.specs.Run.{due_awaits}
 use Rattle.mount_model.specs.Written.{accepted_in, content_in}
@@ -32,7 +32,7 @@ use Rattle.run_laws.proofs.Dropped.{drop_one}
 use Rattle.run_laws.proofs.Handles.{Look, with_at, at-same, at-other, names}
 use Rattle.run_laws.proofs.Writers.{writers-apart}
 use Rattle.run_laws.proofs.Conversation.{writes-so, ends-so}
-use Rattle.run_laws.proofs.Turn.{Ending, AsksOne, RepliesOne, WritesOn, EndsIt, Rests, SaysSo, ByItself, MakesDir, RemovesDir, OpensHandle, CreatesFile, GivesData, HasNoMemory, line_job}
+use Rattle.run_laws.proofs.Turn.{Ending, AsksOne, RepliesOne, WritesOn, EndsIt, Rests, SaysSo, ByItself, MakesDir, RemovesDir, OpensHandle, CreatesFile, ListsEntries, GivesData, HasNoMemory, line_job}
 use Rattle.run_laws.proofs.Opened.{IsOpened}
 use Rattle.run_laws.proofs.Left.{left_under, writer_with}
 use Rattle.run_laws.proofs.Effects.{asks-shared, waits-shared, Effect, Keeps, OpensOne, CreatesOne, ClosesOne, reply-effect, not-replied, line-unmade}
@@ -71,6 +71,7 @@ replies-accepts step line who next said n (MakesDir key) is = refl
 replies-accepts step line who next said n (RemovesDir key) is = refl
 replies-accepts step line who next said n (OpensHandle version) is = refl
 replies-accepts step line who next said n (CreatesFile key) is = refl
+replies-accepts step line who next said n (ListsEntries entries) is = refl
 replies-accepts step line who next said n (GivesData count bytes) is = refl
 replies-accepts step line who next said n (HasNoMemory lacked may) is = go lacked
   where
@@ -86,6 +87,7 @@ replies-accepts step line who next said n (HasNoMemory lacked may) is = go lacke
     go (Removes key) = refl
     go (Opens version) = refl
     go (Creates key) = refl
+    go (Lists entries) = refl
     go (Gives count) = refl
     go (Ends w) = refl
     go Waits = refl

@@ -34,7 +34,7 @@ use Rattle.run_laws.proofs.Settled.{First, Stops, Answers, Passes, first}
 use Rattle.run_laws.proofs.Handles.{handle-at, some-writer}
 use Rattle.run_laws.proofs.Writers.{stands_as, phases-apart}
 use Rattle.run_laws.proofs.Conversation.{EndsSo, writes-so, ends-so}
-use Rattle.run_laws.proofs.Turn.{Ending, AsksOne, RepliesOne, WritesOn, EndsIt, Rests, SaysSo, ByItself, MakesDir, RemovesDir, OpensHandle, CreatesFile, GivesData, HasNoMemory}
+use Rattle.run_laws.proofs.Turn.{Ending, AsksOne, RepliesOne, WritesOn, EndsIt, Rests, SaysSo, ByItself, MakesDir, RemovesDir, OpensHandle, CreatesFile, ListsEntries, GivesData, HasNoMemory}
 use Rattle.run_laws.proofs.Opened.{IsOpened, IsHeard}
 use Rattle.run_laws.proofs.Left.{AnswerIs, NoAnswer, OneAnswer, answer-is}
 use Rattle.run_laws.proofs.Steps.{next_now, heard_now, StepIs, LineStep, WriterStep, TakeStep, step-is, writes-ready}
@@ -97,6 +97,7 @@ says-success next said (MakesDir key) is = ItMakes key refl
 says-success next said (RemovesDir key) is = ItRemoves key refl
 says-success next said (OpensHandle version) is = absurd (cc)
 says-success next said (CreatesFile key) is = absurd (cc)
+says-success next said (ListsEntries entries) is = absurd (cc)
 says-success next said (GivesData count bytes) is = absurd (cc)
 says-success next said (HasNoMemory lacked may) is = absurd (cc)
 

@@ -92,6 +92,7 @@ completion-is : (called : Call) → IsCompletion called → (upload : ℕ) × (c
 completion-is (call.Complete upload count) is = (upload, count, refl)
 completion-is (call.Head key) is = absurd is
 completion-is (call.Probe key) is = absurd is
+completion-is (call.List prefix after max) is = absurd is
 completion-is (call.Get key etag from to) is = absurd is
 completion-is (call.Delete key) is = absurd is
 completion-is (call.Put key bytes) is = absurd is

@@ -1,5 +1,5 @@
 use Rattle.mp_types.specs.Path.{path_of}
-use Rattle.run_laws.proofs.Conversation.{calls_left_fall, path_calls, walk_calls, faulty_calls}
+use Rattle.run_laws.proofs.Conversation.{calls_left_fall, path_calls, walk_calls, list_calls, faulty_calls, faulty_list}
 use Rattle.run_laws.proofs.Calls.{calls_bound}
 use Rattle.run_laws.proofs.calls_are_few.Goals as goal
 
@@ -30,6 +30,9 @@ returns-clause-remove c = λ path names. walk_calls (path_of path) names
 pub returns-clause-unlink : goal.returns-clause-unlink
 returns-clause-unlink c = λ path names. path_calls 1 (path_of path) names
 
+pub returns-clause-list : goal.returns-clause-list
+returns-clause-list c = λ path names. list_calls (path_of path) names
+
 pub returns-clause-faulty : goal.returns-clause-faulty
 returns-clause-faulty c = λ path why. faulty_calls 0 (path_of path) why
 
@@ -50,3 +53,6 @@ returns-clause-faulty_remove c = λ path why. faulty_calls 0 (path_of path) why
 
 pub returns-clause-faulty_unlink : goal.returns-clause-faulty_unlink
 returns-clause-faulty_unlink c = λ path why. faulty_calls 1 (path_of path) why
+
+pub returns-clause-faulty_list : goal.returns-clause-faulty_list
+returns-clause-faulty_list c = λ path why. faulty_list (path_of path) why

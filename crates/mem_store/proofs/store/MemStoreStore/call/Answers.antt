@@ -1,4 +1,5 @@
 use Rattle.mem_store.proofs.Adds.{adds}
+use Rattle.mem_store.proofs.Lists.{list_fits}
 use Rattle.mem_store.proofs.store.MemStoreStore.call.Goals as goal
 
 pub returns-in-Head-clause-told : goal.returns-in-Head-clause-told
@@ -6,6 +7,12 @@ returns-in-Head-clause-told c = adds _ _ _ _ _ _ c.in-Head.is c.head.ensures
 
 pub returns-in-Probe-clause-told : goal.returns-in-Probe-clause-told
 returns-in-Probe-clause-told c = adds _ _ _ _ _ _ c.in-Probe.is c.probe.ensures
+
+pub returns-in-List-clause-told : goal.returns-in-List-clause-told
+returns-in-List-clause-told c = adds _ _ _ _ _ _ c.in-List.is c.list.ensures
+
+pub returns-in-List-clause-kind : goal.returns-in-List-clause-kind
+returns-in-List-clause-kind c = list_fits c.args.call c.in-List.is c.requires c.list.ensures
 
 pub returns-in-Get-clause-told : goal.returns-in-Get-clause-told
 returns-in-Get-clause-told c = adds _ _ _ _ _ _ c.in-Get.is c.get.ensures.served

@@ -1,8 +1,8 @@
-use Rattle.std.proofs.Common.{refl, subst, ap, ◌∙◌}
+use Rattle.std.proofs.Common.{refl, subst, ap, ◌∙◌, inl}
 use Rattle.mount_model.specs.declared.request.Reply.TheVariants as reply
 use Rattle.mp_types.specs.declared.errno.Errno.TheVariants.{Enomem}
 use Rattle.mount_model.specs.State.{Shared, change_line}
-use Rattle.mount_model.specs.Conversation.{Replies, Makes, Removes, Opens, Creates, Gives}
+use Rattle.mount_model.specs.Conversation.{Replies, Makes, Removes, Opens, Creates, Lists, Gives}
 use Rattle.mount_core.specs.Turn.{MayGoOn, next_behind}
 use Rattle.mount_core.proofs.Turns.{takes_asking, takes_replying, takes_ending, takes_waiting, lacks_turn, lacks_does, asks_lack, says_turn, reply_gives, may_open, may_create, makes_new, creates_new, removes_dir, waits_unheard, waits_idle}
 use Rattle.mount_core.proofs.work.Work.go_on.Goals as goal
@@ -95,6 +95,17 @@ pub returns-in-Create : goal.returns-in-Create
 returns-in-Create c =
     let due = subst (λ d. MayGoOn c.args.line d c.args.last c.args.bytes c.args.self.now) c.in-Create.is c.requires.turn in
     takes_ending c.args.line c.args.last c.args.bytes (Creates c.in-Create.key) c.args.self.now c.create.new.self c.requires.begun due.means c.create.ensures
+
+pub returns-in-Listed : goal.returns-in-Listed
+returns-in-Listed c =
+    let w = c.args.self.now in
+    let told = reply.Listed c.in-Listed.entries in
+    let due = subst (λ d. MayGoOn c.args.line d c.args.last c.args.bytes w) c.in-Listed.is c.requires.turn in
+    let same = c.reply_line-in-Listed.ensures.shared in
+    takes_replying c.args.line c.args.last c.args.bytes told (Lists c.in-Listed.entries) w w c.reply_line-in-Listed.new.self c.requires.begun due.means refl refl refl refl
+    c.reply_line-in-Listed.ensures.answers
+    (λ state step line who number asks drops. inl (says_turn c.args.line told step line number asks drops))
+    (ap (λ (t : Shared). t.options) same) (λ step. same) tt
 
 pub write-requires-clause-writes : goal.write-requires-clause-writes
 write-requires-clause-writes c =

@@ -1,10 +1,11 @@
--- Keys that begin alike stand together, from what they begin with on.
-use Rattle.std.proofs.Common.{◌≡◌, ℕ, ◌<◌, ◌⊎◌, inl, inr, true, false, List, [], ◌∷◌, refl, subst, arith, is_gt, nat_cmp, Ordering, Less, Equal, Greater, eqb-true, eq-eqb}
+-- Texts that begin with another one: they stand together, from that one on.
+use Rattle.std.proofs.Common.{◌≡◌, ◌≢◌, ℕ, ◌<◌, ◌⊎◌, inl, inr, Bool, true, false, List, [], ◌∷◌, ◌++◌, length, drop, Option, Some, None, MatchOption, Bor, refl, sym, ap, ◌∙◌, subst, arith, is_gt, nat_cmp, Ordering, Less, Equal, Greater, eqb-true, eq-eqb}
 use Rattle.std.specs.Cmp.{nat_cmp_total}
 use Rattle.std.specs.Cmp.Lexicographic.{slice_cmp}
 use Rattle.std.specs.List.{starts_with}
 use Rattle.std.specs.Ordering.{MatchOrdering, ordering_then}
 use Rattle.std.specs.Prelude.{nat_eq}
+use Rattle.std.specs.Str.Pattern.{FindsTextPrefix, StripsPrefix}
 use Rattle.std.proofs.lemmas.Bool.{and_from, and_parts}
 use Rattle.std.proofs.lemmas.Cmp.{ranked, tied_itself}
 
@@ -14,7 +15,7 @@ first_or_rest x y Less rest ranks upto = inl ranks
 first_or_rest x y Equal rest ranks upto = inr (ranks, upto)
 first_or_rest x y Greater rest ranks upto = absurd (cc)
 
-upto_cons : (x y : ℕ) (xs ys : List ℕ) → is_gt (slice_cmp nat_cmp (x ∷ xs) (y ∷ ys)) ≡ false → (x < y) ⊎ ((x ≡ y) × (is_gt (slice_cmp nat_cmp xs ys) ≡ false))
+pub upto_cons : (x y : ℕ) (xs ys : List ℕ) → is_gt (slice_cmp nat_cmp (x ∷ xs) (y ∷ ys)) ≡ false → (x < y) ⊎ ((x ≡ y) × (is_gt (slice_cmp nat_cmp xs ys) ≡ false))
 upto_cons x y xs ys upto = first_or_rest x y (nat_cmp x y) (slice_cmp nat_cmp xs ys) (ranked x y _ refl) upto
 
 begins_cons : (x y : ℕ) (xs ys : List ℕ) → starts_with nat_eq (y ∷ ys) (x ∷ xs) ≡ true → (x ≡ y) × (starts_with nat_eq ys xs ≡ true)
@@ -51,3 +52,36 @@ between (x ∷ xs) (y ∷ ys) (z ∷ zs) begins low high =
         | inr also ↦ and_from (nat_eq x y) (starts_with nat_eq ys xs) (eq-eqb x y same.0) (between xs ys zs parts.1 same.1 also.1)
       ]
     ]
+
+-- what begins with the text is the text and what stands behind it
+pub split_at : (start key : List ℕ) → starts_with nat_eq key start ≡ true → key ≡ start ++ drop (length start) key
+split_at [] key begins = refl
+split_at (x ∷ xs) [] begins = absurd (cc)
+split_at (x ∷ xs) (y ∷ ys) begins =
+    let parts = begins_cons x y xs ys begins in
+    λ i. sym parts.0 i ∷ split_at xs ys parts.1 i
+
+pub begins_joined : (start rest : List ℕ) → starts_with nat_eq (start ++ rest) start ≡ true
+begins_joined [] rest = refl
+begins_joined (x ∷ xs) rest = and_from (nat_eq x x) (starts_with nat_eq (xs ++ rest) xs) (eq-eqb x x refl) (begins_joined xs rest)
+
+pub drop_joined : (start rest : List ℕ) → drop (length start) (start ++ rest) ≡ rest
+drop_joined [] rest = refl
+drop_joined (x ∷ xs) rest = drop_joined xs rest
+
+pub begins_itself : (text : List ℕ) → starts_with nat_eq text text ≡ true
+begins_itself [] = refl
+begins_itself (x ∷ xs) = and_from (nat_eq x x) (starts_with nat_eq xs xs) (eq-eqb x x refl) (begins_itself xs)
+
+no_start : (start key : List ℕ) → ((rest : List ℕ) → key ≢ start ++ rest) → starts_with nat_eq key start ≡ false
+no_start start key none = by_test (starts_with nat_eq key start) refl
+  where
+    by_test : (b : Bool) → starts_with nat_eq key start ≡ b → b ≡ false
+    by_test true is = absurd (none (drop (length start) key) (split_at start key is))
+    by_test false is = refl
+
+-- `strip_prefix` at a text
+pub stripped : (start key : List ℕ) (r : Option (Bor (List ℕ))) → MatchOption r (FindsTextPrefix start key None) (λ x. StripsPrefix (FindsTextPrefix start) key x.now)
+    → MatchOption r (starts_with nat_eq key start ≡ false) (λ x. key ≡ start ++ x.now)
+stripped start key None none = no_start start key none
+stripped start key (Some x) found = found.1.1 ∙ ap (λ (text : List ℕ). start ++ text) (sym found.2)

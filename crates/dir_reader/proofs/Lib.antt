@@ -1,0 +1,4 @@
+mod Children
+mod Items
+mod Pages
+mod Tables

@@ -1,0 +1,5 @@
+pub mod Fronts
+mod Joined
+pub mod Owns
+mod Remote
+pub mod Shows

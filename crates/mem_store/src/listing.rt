@@ -1,0 +1,153 @@
+ghost use Rattle.std.specs.Prelude.{◌≡◌, ◌++◌, ◌∷◌, [], length, drop, IfOk, MatchOption, Some, None, true, false};
+ghost use Rattle.std.specs.BTreeMap.{IsOrdered};
+ghost use Rattle.std.specs.BTreeMap.Range.{entries_between};
+ghost use Rattle.std.specs.Cmp.Lexicographic.{slice_cmp};
+ghost use Rattle.std.specs.Ordering.{nat_cmp};
+ghost use Rattle.std.specs.declared.ops.Bound.TheVariants.{Included, Unbounded};
+ghost use Rattle.bucket_model.specs.declared.page.PageItem.TheVariants as item;
+ghost use Rattle.bucket_model.specs.Listing.{has_prefix, page_of, up_to_slash};
+ghost use Rattle.mem_store.specs.Listed.{HaveKeyTexts, IsKeyText, StandBehind};
+
+use bucket_model::{Object, Page, PageItem};
+use mp_types::{Key, KeyFault, Shared, Text};
+use std::alloc::{AllocError, Global};
+use std::collections::BTreeMap;
+use std::collections::btree_map::Range;
+use std::ops::Bound;
+
+// What stands behind the prefix, where the text has it.
+fn behind_prefix<'a>(text: &'a str, prefix: &str) -> Option<&'a str>
+    ensures { MatchOption result (has_prefix prefix.now text.now ≡ false) (λ rest. text.now ≡ prefix.now ++ rest.now) }
+{
+    match text.strip_prefix(prefix) {
+        Some(rest) => Some(rest),
+        None => None,
+    }
+}
+
+// What stands before the first `/`, where there is one.
+fn before_slash(text: &str) -> Option<&str>
+    ensures { MatchOption result (up_to_slash text.now ≡ None) (λ name. up_to_slash text.now ≡ Some (name.now ++ 47 ∷ [])) }
+{
+    match text.split_once('/') {
+        Some((name, _)) => Some(name),
+        None => None,
+    }
+}
+
+// The texts joined. There is room for so many bytes at first.
+fn joined(
+    alloc: Global,
+    room: usize,
+    prefix: &str,
+    name: &str,
+    end: &str,
+) -> Result<Text, AllocError>
+    ensures { IfOk result (λ text. text ≡ prefix.now ++ (name.now ++ end.now)) }
+{
+    let mut text = String::with_capacity(alloc, room)?;
+    text.push_str(prefix)?;
+    text.push_str(name)?;
+    text.push_str(end)?;
+    Ok(Text::from_string(text))
+}
+
+// The entries behind all keys that begin with the prefix, the name and a `/`: of all bytes, `0` is the next one.
+fn entries_past<'a>(
+    objects: &'a BTreeMap<Text, Object>,
+    alloc: Global,
+    room: usize,
+    prefix: &str,
+    name: &str,
+) -> Result<Range<'a, Text, Object>, AllocError>
+    ensures from { IfOk result (λ entries. entries ≡ entries_between (slice_cmp nat_cmp) (Included (prefix.now ++ (name.now ++ 48 ∷ []))) Unbounded objects.now.entries) }
+    ensures ordered { IfOk result (λ _. IsOrdered (slice_cmp nat_cmp) objects.now) }
+{
+    let next = joined(alloc, room, prefix, name, "0")?;
+    Ok(objects.range((Bound::Included(&next), Bound::Unbounded)))
+}
+
+// The name of the directory below the prefix that the text is in, or is.
+fn name_below<'a>(text: &'a str, prefix: &str) -> Option<&'a str>
+    ensures { MatchOption result (has_prefix prefix.now text.now ≡ true → up_to_slash (drop (length prefix.now) text.now) ≡ None) (λ name. (has_prefix prefix.now text.now ≡ true) × (up_to_slash (drop (length prefix.now) text.now) ≡ Some (name.now ++ 47 ∷ []))) }
+{
+    match behind_prefix(text, prefix) {
+        Some(rest) => before_slash(rest),
+        None => None,
+    }
+}
+
+// The entries from the first on whose item stands behind the text.
+fn entries_behind<'a>(
+    objects: &'a BTreeMap<Text, Object>,
+    alloc: Global,
+    prefix: &Text,
+    text: &Text,
+) -> Result<Range<'a, Text, Object>, AllocError>
+    ensures { IfOk result (λ entries. StandBehind prefix.now text.now objects.now entries) }
+{
+    if *text < *prefix {
+        return Ok(objects.range((Bound::Included(prefix), Bound::Unbounded)));
+    }
+    match name_below(text.as_str(), prefix.as_str()) {
+        Some(name) => Ok(entries_past(objects, alloc, text.as_str().len(), prefix.as_str(), name)?),
+        None => Ok(objects.range((Bound::Excluded(text), Bound::Unbounded))),
+    }
+}
+
+fn object_item(alloc: Global, key: &Text, object: &Object) -> Result<PageItem, AllocError>
+    requires { IsKeyText key.now }
+    ensures { IfOk result (λ made. made ≡ item.Object key.now object.now.etag (length object.now.bytes)) }
+{
+    match Key::parse(alloc, key.as_str()) {
+        Ok(key) => Ok(PageItem::Object {
+            key,
+            etag: object.etag.copy(),
+            size: object.bytes.len() as u64,
+        }),
+        Err(KeyFault::Memory) => Err(AllocError),
+        Err(_) => unreachable!(),
+    }
+}
+
+/// A page of the prefix behind the text. It looks at one entry for each item, and one more: what has a common prefix is
+/// passed at once.
+pub fn list_page(
+    objects: &BTreeMap<Text, Object>,
+    alloc: Global,
+    prefix: &Text,
+    after: &Text,
+    max: u32,
+) -> Result<Page, AllocError>
+    requires { HaveKeyTexts objects.now }
+    ensures page { IfOk result (λ page. page ≡ page_of prefix.now after.now max objects.now.entries) }
+    ensures ordered { IfOk result (λ _. IsOrdered (slice_cmp nat_cmp) objects.now) }
+{
+    let mut items = Vec::new(alloc);
+    let mut entries = entries_behind(objects, alloc, prefix, after)?;
+    while let Some((key, object)) = entries.next() {
+        let Some(rest) = behind_prefix(key.as_str(), prefix.as_str()) else {
+            return Ok(Page {
+                items: Shared::from_vec(items)?,
+                more: false,
+            });
+        };
+        if items.len() == max as usize {
+            return Ok(Page {
+                items: Shared::from_vec(items)?,
+                more: true,
+            });
+        }
+        let Some(name) = before_slash(rest) else {
+            items.push(object_item(alloc, key, object)?)?;
+            continue;
+        };
+        let room = key.as_str().len();
+        items.push(PageItem::Prefix(joined(alloc, room, prefix.as_str(), name, "/")?))?;
+        entries = entries_past(objects, alloc, room, prefix.as_str(), name)?;
+    }
+    Ok(Page {
+        items: Shared::from_vec(items)?,
+        more: false,
+    })
+}

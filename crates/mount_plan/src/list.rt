@@ -1,0 +1,128 @@
+ghost use Rattle.std.specs.Prelude.{◌≡◌, List, ℕ, [], length, nat_lt, Ok, option_copied};
+ghost use Rattle.mp_types.specs.Path.{path_of};
+ghost use Rattle.listing_rules.specs.Names.{prefix_of};
+ghost use Rattle.mount_model.specs.Conversation.{View as Sees, asks_page, behind_answer, behind_page, list_at, list_next, max_pages};
+ghost use Rattle.mount_plan.specs.Meant.{MeansOne, with_last};
+ghost use Rattle.mount_plan.specs.Seen.{view_of};
+ghost use Rattle.mount_plan.specs.Unkept.{unkept_errno};
+
+use crate::answered::{errno, newest_answer};
+use crate::lookup::{Found, look_up, path_errno};
+use crate::planned::failed;
+use crate::{LinePlan, View};
+use bucket_model::{Brief, Page};
+use dir_reader::last_text_of;
+use mount_model::{Heard, Told};
+use mp_rules::Entry;
+use mp_types::{Errno, below_root};
+
+const MAX_PAGES: usize = 10_000;
+
+// Whether fewer answers have come than a listing has pages at most.
+fn may_ask_on(heard: &Heard, last: Option<&Told>) -> bool
+    ensures { result ≡ nat_lt (length (with_last (option_copied last.entry) heard.now).answers) max_pages }
+{
+    let most = match last {
+        Some(Told::Answer(_)) => MAX_PAGES - 1,
+        _ => MAX_PAGES,
+    };
+    heard.answers.len() < most
+}
+
+// A page came last.
+fn page_plan<'a>(
+    path: &'a str,
+    view: &View<'a>,
+    heard: &'a Heard,
+    last: Option<&'a Told>,
+    page: &'a Page,
+) -> LinePlan<'a>
+    ensures { (names : List (List ℕ)) → path_of path.now ≡ Ok names → MeansOne result (behind_page (view_of view.now) (prefix_of names) (with_last (option_copied last.entry) heard.now).answers page.now) }
+{
+    if !page.more {
+        return LinePlan::List {
+            path,
+            heard,
+            last,
+            names: view.names,
+        };
+    }
+    if !may_ask_on(heard, last) {
+        return failed(Errno::Eoverflow);
+    }
+    LinePlan::Page {
+        path,
+        after: last_text_of(page.items.as_slice()).unwrap_or(""),
+        max: view.options.page,
+    }
+}
+
+// This answer came last.
+fn answer_plan<'a>(
+    path: &'a str,
+    view: &View<'a>,
+    heard: &'a Heard,
+    last: Option<&'a Told>,
+    answer: &'a Brief,
+) -> LinePlan<'a>
+    ensures { (names : List (List ℕ)) → path_of path.now ≡ Ok names → MeansOne result (behind_answer (view_of view.now) (prefix_of names) (with_last (option_copied last.entry) heard.now).answers answer.now) }
+{
+    match answer {
+        Brief::Page(page) => page_plan(path, view, heard, last, page),
+        _ => failed(errno(answer)),
+    }
+}
+
+fn first_page(path: &str, max: u32) -> LinePlan<'_>
+    ensures { (view : Sees) (names : List (List ℕ)) → view.options.page ≡ max → path_of path.now ≡ Ok names → MeansOne result (asks_page view (prefix_of names) []) }
+{
+    LinePlan::Page {
+        path,
+        after: "",
+        max,
+    }
+}
+
+fn entry_plan(path: &str, max: u32, entry: Entry) -> LinePlan<'_>
+    ensures { (view : Sees) (names : List (List ℕ)) → view.options.page ≡ max → path_of path.now ≡ Ok names → MeansOne result (list_at (asks_page view (prefix_of names) []) entry) }
+{
+    match entry {
+        Entry::RemoteDir | Entry::LocalDir => first_page(path, max),
+        Entry::LocalFile { .. } | Entry::File { .. } => failed(Errno::Enotdir),
+        Entry::Nothing => failed(Errno::Enoent),
+    }
+}
+
+/// What a listing does next: once a directory is found, it asks for page after page, and then it gives the names of all.
+/// It goes by its last answer alone, so that a page costs the same however many came before.
+pub fn list_plan<'a>(
+    path: &'a str,
+    view: &View<'a>,
+    heard: &'a Heard,
+    last: Option<&'a Told>,
+) -> LinePlan<'a>
+    ensures { MeansOne result (list_next (view_of view.now) (path_of path.now) (with_last (option_copied last.entry) heard.now)) }
+{
+    let below = match below_root(path) {
+        Ok(below) => below,
+        Err(why) => return failed(path_errno(why)),
+    };
+    if let Some(answer) = newest_answer(heard, last) {
+        return answer_plan(path, view, heard, last, answer);
+    }
+    match look_up(below, view, heard, last) {
+        Ok(Found::Root) => first_page(path, view.options.page),
+        Ok(Found::Entry(entry)) => entry_plan(path, view.options.page, entry),
+        Err(plan) => plan,
+    }
+}
+
+/// The error of a listing that has no room for its next page, behind which there may be `more`, by what it heard before.
+pub fn unkept_errno(heard: &Heard, more: bool) -> Errno
+    ensures { result ≡ unkept_errno more heard.now.answers }
+{
+    if more && heard.answers.len() >= MAX_PAGES - 1 {
+        return Errno::Eoverflow;
+    }
+    Errno::Enomem
+}

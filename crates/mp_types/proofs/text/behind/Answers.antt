@@ -1,0 +1,5 @@
+use Rattle.mp_types.proofs.Prefixes.{stripped}
+use Rattle.mp_types.proofs.text.behind.Goals as goal
+
+pub returns : goal.returns
+returns c = stripped c.args.prefix.now c.args.text.now c.strip_prefix.result c.strip_prefix.ensures.cases
