@@ -4,6 +4,7 @@ use Rattle.std.specs.Ordering.{nat_cmp}
 use Rattle.std.specs.Cmp.Lexicographic.{slice_cmp, pointwise}
 use Rattle.std.specs.List.{starts_with, slice_range}
 use Rattle.std.specs.FinMap as map
+use Rattle.mp_types.specs.Path.{slash}
 use Rattle.bucket_model.specs.declared.call.Call.{Call}
 use Rattle.bucket_model.specs.declared.call.Call.TheVariants as call
 use Rattle.bucket_model.specs.declared.call.Call.TheVariants.{Head, Probe, Get, Delete, Put, Create, Part, Complete, Abort}
@@ -40,15 +41,11 @@ object_at state key = map.get state.objects key
 abbrev pub upload_at : BucketState → ℕ → Option Staged
 upload_at state upload = map.get state.uploads upload
 
--- the key is the other one followed by `/` and more
-abbrev pub IsBelow : List ℕ → List ℕ → Type 0
-IsBelow key above = starts_with nat_eq key (above ++ 47 ∷ []) ≡ true
-
 -- some object's key is below this one, which so is a directory
 pub record HasBelow (state : BucketState) (above : List ℕ) : Type 0 where
   pub key : List ℕ
   pub stands : IsSome (object_at state key)
-  pub below : IsBelow key above
+  pub below : starts_with nat_eq key (above ++ slash ∷ []) ≡ true
 
 abbrev pub head_of : Option Object → Brief
 head_of None = Missing
@@ -154,23 +151,23 @@ version_made state logged = by_call logged.entry.call
 
 abbrev pub with_version : BucketState → Option ObjectVersion → BucketState
 with_version state None = state
-with_version state (Some v) = record { objects = map.insert state.objects v.key (record { etag = v.etag; bytes = v.bytes }); uploads = state.uploads }
+with_version state (Some v) = record state { objects = map.insert state.objects v.key (record { etag = v.etag; bytes = v.bytes }) }
 
 abbrev pub without_object : BucketState → List ℕ → BucketState
-without_object state key = record { objects = map.remove state.objects key; uploads = state.uploads }
+without_object state key = record state { objects = map.remove state.objects key }
 
 -- a new upload has no parts
 abbrev pub with_upload : BucketState → List ℕ → Option Name → BucketState
-with_upload state key (Some (name.Upload upload)) = record { objects = state.objects; uploads = map.insert state.uploads upload (record { key = key; parts = map.empty }) }
+with_upload state key (Some (name.Upload upload)) = record state { uploads = map.insert state.uploads upload (record { key = key; parts = map.empty }) }
 with_upload state key other = state
 
 -- a part replaces an earlier one of its number
 abbrev pub with_part : BucketState → ℕ → ℕ → List ℕ → Option Staged → BucketState
 with_part state upload number bytes None = state
-with_part state upload number bytes (Some staged) = record { objects = state.objects; uploads = map.insert state.uploads upload (record { key = staged.key; parts = map.insert staged.parts number bytes }) }
+with_part state upload number bytes (Some staged) = record state { uploads = map.insert state.uploads upload (record staged { parts = map.insert staged.parts number bytes }) }
 
 abbrev pub without_upload : BucketState → ℕ → BucketState
-without_upload state upload = record { objects = state.objects; uploads = map.remove state.uploads upload }
+without_upload state upload = record state { uploads = map.remove state.uploads upload }
 
 -- the upload that made the object is gone
 abbrev pub completed : BucketState → ℕ → Option ObjectVersion → BucketState

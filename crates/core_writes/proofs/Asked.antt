@@ -9,7 +9,7 @@ use Rattle.upload_rules.specs.declared.upload.Created.{Created}
 use Rattle.upload_rules.specs.declared.upload.Created.TheVariants.{NotAsked}
 use Rattle.upload_rules.specs.declared.upload.UpAsk.{UpAsk}
 use Rattle.upload_rules.specs.declared.upload.UpAsk.TheVariants.{Create, Part, Complete, Abort}
-use Rattle.upload_rules.specs.Upload.{Upload, due, next_part, with_ask, fails_with}
+use Rattle.upload_rules.specs.Upload.{Upload, due, next_part, with_ask, fails_with, with_due}
 use Rattle.upload_rules.proofs.Due.{IsDue, IsPartDue, due-is}
 use Rattle.run_laws.proofs.Places.{pending-ask}
 use Rattle.mount_model.specs.declared.event.Ask.{Ask}
@@ -17,7 +17,7 @@ use Rattle.mount_model.specs.declared.event.Owner.{Owner}
 use Rattle.mount_model.specs.declared.event.Owner.TheVariants as owner
 use Rattle.mount_model.specs.Step.{change_last}
 use Rattle.mount_model.specs.Handles.{Writer}
-use Rattle.mount_model.specs.Writers.{Asking, asking_for, with_due, ask_times, with_asking, first_asks, lacking, settled}
+use Rattle.mount_model.specs.Writers.{Asking, asking_for, ask_times, with_asking, first_asks, lacking, settled}
 use Rattle.mount_model.specs.State.{is_abort, calls_in, gives_up}
 use Rattle.mount_model.specs.Run.{numbered}
 use Rattle.job_table.specs.Journal.{Journaled}

@@ -14,7 +14,7 @@ use Rattle.job_table.specs.LiveJobs.{LiveJobs, held_of, AreNumbered}
 
 -- so many drops and asks behind those of a step
 abbrev pub with_turn : List ℕ → List Ask → Step → Step
-with_turn drops asks step = record { event = step.event; drops = step.drops ++ drops; asks = step.asks ++ asks; replies = step.replies }
+with_turn drops asks step = record step { drops = step.drops ++ drops; asks = step.asks ++ asks }
 
 -- what the turn of a writer asks, drops and answers among all jobs so far, and what it leaves
 pub record IsTurn (writer : Writer) (all : List Job) (step : Step) (upload : Upload) (jobs : LiveJobs) (own : List Answered) : Type 0 where

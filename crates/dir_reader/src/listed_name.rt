@@ -1,4 +1,4 @@
-ghost use Rattle.std.specs.Prelude.{◌≡◌, IfOk, Some, refl};
+ghost use Rattle.std.specs.Prelude.{◌≡◌, Some, refl};
 ghost use Rattle.mp_rules.specs.Names.{name_cmp};
 ghost use Rattle.dir_reader.specs.Order.{is_same_name, names_equiv, names_per, names_po, names_total};
 

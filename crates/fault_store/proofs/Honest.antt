@@ -14,7 +14,7 @@ use Rattle.bucket_model.specs.declared.history.Name.{Name}
 use Rattle.bucket_model.specs.declared.history.Name.TheVariants as name
 use Rattle.bucket_model.specs.declared.history.Logged.{Logged}
 use Rattle.bucket_model.specs.Along.{Along}
-use Rattle.bucket_model.specs.Answers.{MayBeMade, brief_of, fits, is_answer_of, is_counted}
+use Rattle.bucket_model.specs.Answers.{MayBeMade, brief_of, fits, is_answer_of, is_counted, made_by}
 use Rattle.bucket_model.specs.Bucket.{BucketState, IsComplete, ObjectVersion, Whole, after, upload_at, version_completed, version_made, whole_of}
 use Rattle.bucket_model.specs.History.{History, IsLegalEntry, IsLegalHistory, IsNewUpload, IsOneContent, Makes, MakesWhole, MayAnswer, replay, versions_of}
 use Rattle.mem_store.proofs.Replay.{replay_push, versions_push, legal_push}
@@ -24,7 +24,7 @@ use Rattle.fault_store.specs.declared.faulty.When.{When}
 use Rattle.fault_store.specs.declared.faulty.When.TheVariants.{Before, After}
 use Rattle.fault_store.specs.Called.{IsCalled}
 use Rattle.fault_store.specs.Counts.{risen}
-use Rattle.fault_store.specs.Entries.{entries_of, entry_after, entry_before, made_by, shown}
+use Rattle.fault_store.specs.Entries.{entries_of, entry_after, entry_before, shown}
 use Rattle.fault_store.specs.Faulty.{Conveys, IsHonest, IsServed, LosesPage, Mirrors, Reaches, Serves, when_at}
 
 -- the last entry of a legal history is legal behind those before it

@@ -1,20 +1,13 @@
 -- The entries of calls that failed or were handed on.
-use Rattle.std.specs.Prelude.{Bool, true, false, List, [], ◌∷◌, Option, Some, None}
+use Rattle.std.specs.Prelude.{Bool, true, false, List, [], ◌∷◌, None}
 use Rattle.bucket_model.specs.declared.call.Call.{Call}
 use Rattle.bucket_model.specs.declared.answer.Answer.{Answer}
 use Rattle.bucket_model.specs.declared.answer.Answer.TheVariants as answer
 use Rattle.bucket_model.specs.declared.answer.Brief.{Brief}
-use Rattle.bucket_model.specs.declared.answer.Brief.TheVariants.{Made, Upload, Fault}
-use Rattle.bucket_model.specs.declared.history.Name.{Name}
+use Rattle.bucket_model.specs.declared.answer.Brief.TheVariants.{Fault}
 use Rattle.bucket_model.specs.declared.history.Name.TheVariants as name
 use Rattle.bucket_model.specs.declared.history.Logged.{Logged}
-use Rattle.bucket_model.specs.Answers.{brief_of}
-
--- the name that an answer tells of
-abbrev pub made_by : Brief → Option Name
-made_by (Made etag) = Some (name.Version etag)
-made_by (Upload upload) = Some (name.Upload upload)
-made_by other = None
+use Rattle.bucket_model.specs.Answers.{brief_of, made_by}
 
 -- a call that took no effect
 abbrev pub entry_before : Call → Logged

@@ -95,7 +95,7 @@ pub record IsServed {S : Type 0} (Called : ℕ → Answer → S → S → Type 0
 
 -- the inner store's history with the log in place of its entries
 abbrev pub told_with : List Logged → History → History
-told_with log told = record { log = log; versions = told.versions }
+told_with log told = record told { log = log }
 
 -- what the store tells, if the inner one tells
 abbrev pub told_by : List Logged → Option History → Option History

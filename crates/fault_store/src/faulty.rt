@@ -1,4 +1,4 @@
-ghost use Rattle.std.specs.Prelude.{◌≡◌, ℕ, ◌<◌, ◌≤◌, ◌+◌, ◌⊎◌, [], ◌∷◌, ◌++◌, length, IfSome, IfOk, OnSome, vec_len, vec_capacity};
+ghost use Rattle.std.specs.Prelude.{◌≡◌, ℕ, ◌<◌, ◌≤◌, ◌+◌, ◌⊎◌, [], length, IfSome, IfOk, OnSome, vec_len, vec_capacity};
 ghost use Rattle.bucket_model.specs.Answers.{MayBeMade};
 ghost use Rattle.fault_store.specs.Called.{IsCalled};
 ghost use Rattle.fault_store.specs.Faulty.{Conveys, FailsBefore, IsHonest, IsServed, KeepsNumbers, RunsShort, Starts, first_listed, told_by, when_at};

@@ -1,6 +1,5 @@
 ghost use Rattle.std.specs.Prelude.{◌≡◌, ◌<◌, ◌∷◌, [], ◌++◌, vec_len, vec_capacity};
-ghost use Rattle.bucket_model.specs.Answers.{brief_of, is_counted as is_counted_brief};
-ghost use Rattle.fault_store.specs.Entries.{made_by};
+ghost use Rattle.bucket_model.specs.Answers.{brief_of, is_counted as is_counted_brief, made_by};
 
 use bucket_model::{Answer, Brief, Call, HEntry, Logged, Name};
 

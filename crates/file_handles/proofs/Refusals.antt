@@ -2,27 +2,15 @@
 use Rattle.std.proofs.Common.{◌≡◌, ◌≢◌, ◌↔◌, ◌==◌, ℕ, ◌+◌, ◌-◌, ◌*◌, Bool, true, false, not, nat_lt, List, length, drop, Option, Some, None, Result, Ok, Err, IsErrOf, if◌then◌else◌, inl, inr, refl, sym, ap, ◌∙◌, arith}
 use Rattle.bucket_model.specs.Answers.{max_parts}
 use Rattle.mp_types.specs.declared.errno.Errno.{Errno}
-use Rattle.mp_types.specs.declared.errno.Errno.TheVariants.{Einval, Efbig}
 use Rattle.upload_rules.specs.declared.upload.UpState.{UpState}
 use Rattle.upload_rules.specs.declared.upload.UpState.TheVariants as state
 use Rattle.upload_rules.specs.Upload.{Upload, with_bytes, written}
-use Rattle.part_uploader.specs.declared.fault.UpFault.{UpFault}
-use Rattle.part_uploader.specs.declared.fault.UpFault.TheVariants.{Failed, Finished, OutOfOrder, TooBig, Memory}
-use Rattle.part_uploader.specs.Refusal.{refusal}
+use Rattle.upload_rules.specs.declared.upload.UpFault.{UpFault}
+use Rattle.upload_rules.specs.declared.upload.UpFault.TheVariants.{Failed, Finished, OutOfOrder, TooBig, Memory}
+use Rattle.upload_rules.specs.Refusal.{refusal}
 use Rattle.mount_model.specs.Handles.{Writer}
-use Rattle.mount_model.specs.Conversation.{Next, Writes, fails, with_upload, write_to}
-use Rattle.file_handles.specs.Writing.{IsRefused, LacksMemory, errno_for}
-
--- what a write comes to, where the upload refuses it for this reason, or for none
-abbrev pub written_or : Writer → List ℕ → Option UpFault → Next
-written_or w bytes (Some why) = fails (errno_for why)
-written_or w bytes None = Writes (length bytes) (with_upload (with_bytes bytes w.upload) w)
-
--- the tests of an open writer
-by_tests : (misplaced too_big : Bool) (w : Writer) (bytes : List ℕ) → (if misplaced then fails Einval else (if too_big then fails Efbig else written_or w bytes None)) ≡ written_or w bytes (if misplaced then Some OutOfOrder else (if too_big then Some TooBig else None))
-by_tests true too_big w bytes = refl
-by_tests false true w bytes = refl
-by_tests false false w bytes = refl
+use Rattle.mount_model.specs.Conversation.{Writes, errno_for, fails, with_upload, write_to, written_or}
+use Rattle.file_handles.specs.Writing.{IsRefused, LacksMemory}
 
 not_memory_by_tests : (misplaced too_big : Bool) → (if misplaced then Some OutOfOrder else (if too_big then Some TooBig else None)) ≢ Some Memory
 not_memory_by_tests true too_big is = absurd (cc)
@@ -30,16 +18,6 @@ not_memory_by_tests false true is = absurd (cc)
 not_memory_by_tests false false is = absurd (cc)
 
 module _ (w : Writer) (offset : ℕ) (bytes : List ℕ) where
-  -- the conversation goes by the upload's refusals
-  goes_by_refusal : write_to w offset bytes ≡ written_or w bytes (refusal w.upload offset (length bytes))
-  goes_by_refusal = by_state w.upload.state refl
-    where
-      by_state : (s : UpState) → w.upload.state ≡ s → write_to w offset bytes ≡ written_or w bytes (refusal w.upload offset (length bytes))
-      by_state state.Open is = rw is (by_tests (not (offset == written w.upload)) (nat_lt (w.upload.part * max_parts) (offset + length bytes)) _ bytes)
-      by_state state.Finished is = rw is refl
-      by_state state.Done is = rw is refl
-      by_state (state.Failed errno) is = rw is refl
-
   -- an upload doesn't refuse for want of memory
   not_memory : refusal w.upload offset (length bytes) ≢ Some Memory
   not_memory = by_state w.upload.state refl
@@ -66,7 +44,7 @@ module _ (w : Writer) (offset : ℕ) (bytes : List ℕ) where
       by : (o : Option UpFault) → refusal w.upload offset (length bytes) ≡ o → write_to w offset bytes ≡ Writes count (with_upload new w)
       by None free =
           let as_many : length bytes ≡ count = omega arith in
-          goes_by_refusal ∙ ap (written_or w bytes) free ∙ ap (λ n. Writes n (with_upload (with_bytes bytes w.upload) w)) as_many ∙ ap (λ u. Writes count (with_upload u w)) (sym taken)
+          ap (written_or w bytes) free ∙ ap (λ n. Writes n (with_upload (with_bytes bytes w.upload) w)) as_many ∙ ap (λ u. Writes count (with_upload u w)) (sym taken)
       by (Some why) refused = let err = as_told why refused result tells in absurd (cc)
 
   -- bytes that weren't taken were refused, or there was no memory for them
@@ -86,7 +64,7 @@ module _ (w : Writer) (offset : ℕ) (bytes : List ℕ) where
       lacks free Memory at = record {
         count = length bytes;
         next = with_upload (with_bytes bytes w.upload) w;
-        would = goes_by_refusal ∙ ap (written_or w bytes) free;
+        would = ap (written_or w bytes) free;
         is_memory = said ∙ ap errno_for (sym at);
       }
       lacks free (Failed first) at = absurd (told (Failed first) (λ same. cc) free at)
@@ -96,4 +74,4 @@ module _ (w : Writer) (offset : ℕ) (bytes : List ℕ) where
 
       by : (o : Option UpFault) → refusal w.upload offset (length bytes) ≡ o → IsRefused w offset bytes errno
       by None free = inr (lacks free why refl)
-      by (Some first) refused = inl (goes_by_refusal ∙ ap (written_or w bytes) refused ∙ ap (λ f. fails (errno_for f)) (same first refused) ∙ ap fails (sym said))
+      by (Some first) refused = inl (ap (written_or w bytes) refused ∙ ap (λ f. fails (errno_for f)) (same first refused) ∙ ap fails (sym said))

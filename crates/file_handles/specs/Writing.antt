@@ -3,12 +3,10 @@ use Rattle.std.specs.Prelude.{◌≡◌, ℕ, ◌<◌, List, Some, ◌⊎◌}
 use Rattle.std.specs.FinMap.{get, insert}
 use Rattle.mp_types.specs.HandleName.{HandleName}
 use Rattle.mp_types.specs.declared.errno.Errno.{Errno}
-use Rattle.mp_types.specs.declared.errno.Errno.TheVariants.{Einval, Efbig, Enomem}
+use Rattle.mp_types.specs.declared.errno.Errno.TheVariants.{Enomem}
 use Rattle.upload_rules.specs.declared.upload.UpState.TheVariants as state
 use Rattle.upload_rules.specs.declared.upload.Created.TheVariants as created
 use Rattle.upload_rules.specs.Upload.{Upload, with_closing}
-use Rattle.part_uploader.specs.declared.fault.UpFault.{UpFault}
-use Rattle.part_uploader.specs.declared.fault.UpFault.TheVariants.{Failed, Finished, OutOfOrder, TooBig, Memory}
 use Rattle.mount_model.specs.declared.handle.Handle.TheVariants.{Writing}
 use Rattle.mount_model.specs.declared.handle.Waiter.{Waiter}
 use Rattle.mount_model.specs.declared.handle.Waiter.TheVariants.{Nobody, Sync, Close}
@@ -26,14 +24,6 @@ pub record IsWriter (handle : Handle) : Type 0 where
 pub record IsWriting (name : HandleName) (handles : Handles) : Type 0 where
   pub writer : Writer
   pub stands : get handles name ≡ Some (Writing writer)
-
--- the error that a write is answered with, where the upload takes no bytes
-abbrev pub errno_for : UpFault → Errno
-errno_for (Failed errno) = errno
-errno_for Finished = Einval
-errno_for OutOfOrder = Einval
-errno_for TooBig = Efbig
-errno_for Memory = Enomem
 
 -- the writer would take the bytes, and there is no memory for them
 pub record LacksMemory (w : Writer) (offset : ℕ) (bytes : List ℕ) (errno : Errno) : Type 0 where
@@ -60,7 +50,7 @@ waits (Close line) w = waited_for (Close line) (with_closing (ended w.upload)) w
 
 -- who waited was answered
 abbrev pub unanswered : Writer → Writer
-unanswered w = record { line = w.line; key = w.key; upload = w.upload; waiter = Nobody }
+unanswered w = record w { waiter = Nobody }
 
 -- a call of this purpose may come back
 pub record MayComeBack (purpose : Purpose) (u : Upload) : Type 0 where

@@ -85,12 +85,12 @@ pub fn write(
     take_bytes(writer_at(handles, actor, name), offset, content)
 }
 
-/// An fsync or a close waits for the writer from now on. Takes no memory.
-pub fn wait(handles: &mut Handles<Handle<Uploader>>, actor: u16, name: u16, waiter: Waiter)
+/// An fsync or a close waits for the writer from now on. Tells whether it was under way before. Takes no memory.
+pub fn wait(handles: &mut Handles<Handle<Uploader>>, actor: u16, name: u16, waiter: Waiter) -> bool
     requires { IsWriting (actor, name) handles.old }
-    ensures { (w : WriterOf) → get handles.old (actor, name) ≡ Some (Writing w) → handles.new ≡ insert handles.old (actor, name) (Writing (waits waiter w)) }
+    ensures { (w : WriterOf) → get handles.old (actor, name) ≡ Some (Writing w) → (result ≡ is_under_way w.upload.state) × (handles.new ≡ insert handles.old (actor, name) (Writing (waits waiter w))) }
 {
-    begin_wait(writer_at(handles, actor, name), waiter);
+    begin_wait(writer_at(handles, actor, name), waiter)
 }
 
 /// The writer hears the answer to a call of this purpose. Tells whether it was under way before. Takes no memory.

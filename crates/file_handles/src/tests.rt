@@ -1,4 +1,4 @@
-ghost use Rattle.std.specs.Prelude.{◌≡◌, IsTrue, IfOk};
+ghost use Rattle.std.specs.Prelude.{IsTrue, IfOk};
 ghost use Rattle.job_table.specs.declared.purpose.Purpose.{Purpose as PurposeOf};
 ghost use Rattle.job_table.specs.declared.purpose.Purpose.TheVariants as purpose;
 ghost use Rattle.file_handles.specs.Writing.{IsWriting, MayComeBack, MayHear};

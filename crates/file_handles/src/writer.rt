@@ -1,14 +1,14 @@
 ghost use Rattle.std.specs.Prelude.{◌≡◌, IfOk, IfErr, OnErr};
 ghost use Rattle.mp_types.specs.Content.{bytes_of};
 ghost use Rattle.bucket_model.specs.declared.call.Call.{Call};
-ghost use Rattle.mount_model.specs.Conversation.{Writes, ended, errno_of, with_upload, write_to};
+ghost use Rattle.mount_model.specs.Conversation.{Writes, ended, errno_for, with_upload, write_to};
 ghost use Rattle.mount_model.specs.Writers.{hears_answer, is_under_way};
 ghost use Rattle.job_table.specs.LiveJobs.{purpose_of};
-ghost use Rattle.file_handles.specs.Writing.{IsRefused, MayComeBack, errno_for, unanswered, waits};
+ghost use Rattle.file_handles.specs.Writing.{IsRefused, MayComeBack, unanswered, waits};
 
 use bucket_model::Brief;
 use job_table::Purpose;
-use mount_model::{Waiter, Writer};
+use mount_model::{Waiter, Writer, errno_of};
 use mp_types::{Data, Errno};
 use part_uploader::{UpFault, Uploader};
 use upload_rules::UpState;
@@ -47,28 +47,6 @@ fn end(upload: &mut Uploader)
     }
 }
 
-/// An fsync or a close waits for the writer, which takes no more bytes.
-pub fn begin_wait(writer: &mut Writer<Uploader>, waiter: Waiter)
-    ensures { writer.new ≡ waits waiter writer.old }
-{
-    match waiter {
-        Waiter::Nobody => return,
-        Waiter::Sync(_) => end(&mut writer.upload),
-        Waiter::Close(_) => {
-            end(&mut writer.upload);
-            writer.upload.closing();
-        }
-    }
-    writer.waiter = waiter;
-}
-
-/// Nobody waits any more.
-pub fn end_wait(writer: &mut Writer<Uploader>)
-    ensures { writer.new ≡ unanswered writer.old }
-{
-    writer.waiter = Waiter::Nobody;
-}
-
 fn is_under_way(state: UpState) -> bool
     ensures { result ≡ is_under_way state }
 {
@@ -78,14 +56,29 @@ fn is_under_way(state: UpState) -> bool
     }
 }
 
-// The error of a call that failed.
-fn errno_of(answer: &Brief) -> Errno
-    ensures { result ≡ errno_of answer.now }
+/// An fsync or a close waits for the writer, which takes no more bytes. Tells whether it was under way before.
+pub fn begin_wait(writer: &mut Writer<Uploader>, waiter: Waiter) -> bool
+    ensures was { result ≡ is_under_way writer.old.upload.state }
+    ensures waits { writer.new ≡ waits waiter writer.old }
 {
-    match answer {
-        Brief::NoMemory => Errno::Enomem,
-        _ => Errno::Eio,
+    let was_under_way = is_under_way(writer.upload.state());
+    match waiter {
+        Waiter::Nobody => return was_under_way,
+        Waiter::Sync(_) => end(&mut writer.upload),
+        Waiter::Close(_) => {
+            end(&mut writer.upload);
+            writer.upload.closing();
+        }
     }
+    writer.waiter = waiter;
+    was_under_way
+}
+
+/// Nobody waits any more.
+pub fn end_wait(writer: &mut Writer<Uploader>)
+    ensures { writer.new ≡ unanswered writer.old }
+{
+    writer.waiter = Waiter::Nobody;
 }
 
 // The upload hears the answer to a call of this purpose.

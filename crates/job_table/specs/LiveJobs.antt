@@ -38,7 +38,7 @@ held_at number held = find (λ h. h.number == number) held
 
 -- the job's call has moved out
 abbrev pub taken : Held → Held
-taken h = record { number = h.number; owner = h.owner; line = h.line; call = None; purpose = h.purpose }
+taken h = record h { call = None }
 
 abbrev pub with_taken : ℕ → List Held → List Held
 with_taken number held = map (λ h. if h.number == number then taken h else h) held

@@ -156,17 +156,18 @@ all_found nodes sorted passed (e ∷ es) is = (
   all_found nodes sorted (passed ++ e ∷ []) es (is ∙ sym (append_assoc passed (e ∷ []) es)),
 )
 
-module _ {Y : Type 0} (nodes : BTreeMap (String Y) Node) (kept : IsKept nodes) (prefix : List ℕ) where
-  local_shown : (key : List ℕ) → 0 < length key → local_at (names_in nodes) key ≡ shown (node_in nodes key)
-  local_shown key some = kept_local nodes kept key some ∙ above_none (node_in nodes key).below (node_in nodes key).kind
+-- what is local at a key is what its node shows
+pub local_shown : {Y : Type 0} (nodes : BTreeMap (String Y) Node) → IsKept nodes → (key : List ℕ) → 0 < length key → local_at (names_in nodes) key ≡ shown (node_in nodes key)
+local_shown nodes kept key some = kept_local nodes kept key some ∙ above_none (node_in nodes key).below (node_in nodes key).kind
 
+module _ {Y : Type 0} (nodes : BTreeMap (String Y) Node) (kept : IsKept nodes) (prefix : List ℕ) where
   -- what one entry gives is a child
   given : (e : String Y × Node) → get_by_text nodes (string_bytes e.0) ≡ Some e.1 → (child : List ℕ × Local) → child_of prefix e ≡ Some child → IsChild (names_in nodes) prefix child
   given e here child is =
       let gives = gives_child prefix e child is in
       subst (IsChild (names_in nodes) prefix) gives.same (record {
         plain = gives.plain;
-        is = sym (local_shown (prefix ++ drop (length prefix) (string_bytes e.0)) (some_behind prefix _ (some_text _ gives.plain)) ∙ ap (λ (text : List ℕ). shown (node_in nodes text)) (sym gives.key) ∙ ap (λ (o : Option Node). shown (unwrap_or o bare)) here);
+        is = sym (local_shown nodes kept (prefix ++ drop (length prefix) (string_bytes e.0)) (some_behind prefix _ (some_text _ gives.plain)) ∙ ap (λ (text : List ℕ). shown (node_in nodes text)) (sym gives.key) ∙ ap (λ (o : Option Node). shown (unwrap_or o bare)) here);
         some = shown_bare e.1 gives.kept;
       })
 
@@ -183,7 +184,7 @@ module _ {Y : Type 0} (nodes : BTreeMap (String Y) Node) (kept : IsKept nodes) (
   are_children sorted = record {
     each = all_from (IsChild (names_in nodes) prefix) (children_in prefix nodes.entries) (each_given nodes.entries (all_found nodes sorted [] nodes.entries refl));
     all = λ name plain some.
-        let kept : is_bare (node_in nodes (prefix ++ name)) ≡ false = none_shown (node_in nodes (prefix ++ name)) (ap is_none (sym (local_shown (prefix ++ name) (some_behind prefix name (some_text name plain)))) ∙ some) in
+        let kept : is_bare (node_in nodes (prefix ++ name)) ≡ false = none_shown (node_in nodes (prefix ++ name)) (ap is_none (sym (local_shown nodes kept (prefix ++ name) (some_behind prefix name (some_text name plain)))) ∙ some) in
         among prefix name plain (node_in nodes (prefix ++ name)) kept nodes.entries (there (get_by_text nodes (prefix ++ name)) kept);
     rise = rising prefix nodes.entries sorted;
   }

@@ -22,7 +22,7 @@ with_name local.Dir key names = with_dir key names
 with_name (local.File size) key names = with_file key size names
 
 abbrev pub without_dir : List ℕ → LocalNames → LocalNames
-without_dir key names = record { dirs = set.remove names.dirs key; files = names.files }
+without_dir key names = record names { dirs = set.remove names.dirs key }
 
 abbrev pub keys_in : Sizes → Keys
 keys_in sizes = set.from_list (map.keys sizes)

@@ -110,12 +110,7 @@ impl Locals {
         requires { 0 < length key.now }
         ensures { result ≡ local_at self.now key.now }
     {
-        let node = node_at(&self.nodes, key);
-        if node.below > 0 {
-            Local::Dir
-        } else {
-            node.kind
-        }
+        node_at(&self.nodes, key).shown()
     }
 
     /// Whether some name stands below a key. Takes no memory.

@@ -1,9 +1,9 @@
 -- What cutting a text at a prefix or at a `/` gives.
-use Rattle.std.proofs.Common.{◌≡◌, ℕ, suc, ◌<◌, true, false, cond, List, [], ◌∷◌, ◌++◌, length, drop, Option, Some, None, option_map, MatchOption, refl, ap, ◌∙◌, arith, get_or, ◌≢◌, zero, eqb-true, Bor}
+use Rattle.std.proofs.Common.{◌≡◌, ℕ, suc, ◌<◌, true, cond, List, [], ◌∷◌, ◌++◌, length, drop, Option, Some, None, option_map, MatchOption, refl, ap, ◌∙◌, arith, get_or, ◌≢◌, zero, eqb-true, Bor}
 use Rattle.std.specs.Prelude.{◌==◌}
 use Rattle.mp_types.specs.Path.{slash}
 use Rattle.bucket_model.specs.Listing.{has_prefix, up_to_slash}
-use Rattle.mp_types.proofs.Prefixes.{begins_joined, drop_joined, split_at}
+use Rattle.mp_types.proofs.Prefixes.{begins_joined, drop_joined}
 use Rattle.bucket_model.proofs.Order.{false_unless}
 
 not_slash : (byte : ℕ) (bytes : List ℕ) → (byte ≢ slash) → up_to_slash (byte ∷ bytes) ≡ option_map (λ front. byte ∷ front) (up_to_slash bytes)
@@ -20,9 +20,6 @@ slash_behind [] rest free = refl
 slash_behind (byte ∷ name) rest free =
     not_slash byte (name ++ slash ∷ rest) (free zero (omega arith))
     ∙ ap (option_map (λ front. byte ∷ front)) (slash_behind name rest (λ i inside. free (suc i) (omega (arith, inside))))
-
-pub lacks_prefix : (prefix text : List ℕ) → ((rest : List ℕ) → text ≢ prefix ++ rest) → has_prefix prefix text ≡ false
-lacks_prefix prefix text lacks = false_unless (has_prefix prefix text) (λ has. lacks (drop (length prefix) text) (split_at prefix text has))
 
 -- the name before the first `/` of what stands behind the prefix
 pub name_behind : (prefix text rest : List ℕ) (name : Option (Bor (List ℕ))) → text ≡ prefix ++ rest → MatchOption name (up_to_slash rest ≡ None) (λ n. up_to_slash rest ≡ Some (n.now ++ slash ∷ []))

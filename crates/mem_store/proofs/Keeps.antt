@@ -13,12 +13,12 @@ use Rattle.bucket_model.specs.declared.answer.Brief.{Brief}
 use Rattle.bucket_model.specs.declared.call.Call.{Call}
 use Rattle.bucket_model.specs.declared.history.Logged.{Logged}
 use Rattle.bucket_model.specs.declared.history.Object.{Object}
-use Rattle.bucket_model.specs.Answers.{MayBeMade}
+use Rattle.bucket_model.specs.Answers.{MayBeMade, made_by}
 use Rattle.bucket_model.specs.Bucket.{BucketState, empty_bucket, ObjectVersion, after, object_at, version_made}
 use Rattle.bucket_model.specs.History.{replay, versions_of, IsLegalEntry, MakesName, MayAnswer}
 use Rattle.mem_store.specs.Kept.{AreNumbered, IsKept, Kept}
 use Rattle.mem_store.specs.Listed.{HaveKeyTexts, IsKeyText}
-use Rattle.mem_store.specs.Served.{entry_of, IsServed, made_by, Serves, upload_in, uploads_made}
+use Rattle.mem_store.specs.Served.{entry_of, IsServed, Serves, upload_in, uploads_made}
 use Rattle.mem_store.specs.Uploads.{Uploads}
 use Rattle.mem_store.proofs.Counts.{IsNextUpload, IsNextVersion, counted_next, ids_next, numbered_next}
 use Rattle.mem_store.proofs.Replay.{legal_push, replay_push, uploads_few, uploads_push, versions_push, versions_from-few}

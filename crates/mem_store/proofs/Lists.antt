@@ -13,7 +13,8 @@ use Rattle.bucket_model.specs.declared.call.Call.TheVariants as call
 use Rattle.bucket_model.specs.declared.history.Logged.{Logged}
 use Rattle.bucket_model.specs.declared.history.Object.{Object}
 use Rattle.bucket_model.specs.declared.page.Page.{Page}
-use Rattle.bucket_model.specs.Answers.{MayBeMade, fits, max_items}
+use Rattle.mp_types.specs.Options.{max_items}
+use Rattle.bucket_model.specs.Answers.{MayBeMade, fits}
 use Rattle.bucket_model.specs.Bucket.{BucketState, IsList}
 use Rattle.bucket_model.specs.History.{replay}
 use Rattle.bucket_model.specs.Listing.{page_of}

@@ -14,18 +14,13 @@ use Rattle.bucket_model.specs.declared.history.Name.{Name}
 use Rattle.bucket_model.specs.declared.history.Name.TheVariants as name
 use Rattle.bucket_model.specs.declared.history.Logged.{Logged}
 use Rattle.bucket_model.specs.declared.history.Object.{Object}
+use Rattle.bucket_model.specs.Answers.{made_by}
 use Rattle.bucket_model.specs.Bucket.{IsAnswer}
 use Rattle.bucket_model.specs.History.{History, replay, versions_of, IsLegalHistory}
 
 -- `v` and the number
 abbrev pub etag_of_version : ℕ → List ℕ
 etag_of_version number = 118 ∷ decimal number
-
--- the name that an answer tells of
-abbrev pub made_by : Brief → Option Name
-made_by (Made etag) = Some (name.Version etag)
-made_by (Upload upload) = Some (name.Upload upload)
-made_by other = None
 
 -- the entry of an answered call
 abbrev pub entry_of : Call → Brief → Logged

@@ -30,7 +30,7 @@ whole_bytes count parts = if map.len parts == count then joined_from parts 1 cou
 -- a part is stored where the upload is staged
 abbrev pub with_part : Uploads → ℕ → ℕ → List ℕ → Option Staged → Uploads
 with_part uploads upload number bytes None = uploads
-with_part uploads upload number bytes (Some staged) = map.insert uploads upload (record { key = staged.key; parts = map.insert staged.parts number bytes })
+with_part uploads upload number bytes (Some staged) = map.insert uploads upload (record staged { parts = map.insert staged.parts number bytes })
 
 -- where the upload makes an object, that is put as the version with this number and the upload is gone; else nothing changes
 abbrev pub Completes : ℕ → ℕ → Option Whole → BTreeMap (List ℕ) Object → BTreeMap (List ℕ) Object → Uploads → Uploads → Option (List ℕ) → Type 0

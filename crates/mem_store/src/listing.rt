@@ -9,21 +9,11 @@ ghost use Rattle.bucket_model.specs.Listing.{has_prefix, page_of, up_to_slash};
 ghost use Rattle.mem_store.specs.Listed.{HaveKeyTexts, IsKeyText, StandBehind};
 
 use bucket_model::{Object, Page, PageItem};
-use mp_types::{Key, KeyFault, Shared, Text};
+use mp_types::{Key, KeyFault, Shared, Text, behind};
 use std::alloc::{AllocError, Global};
 use std::collections::BTreeMap;
 use std::collections::btree_map::Range;
 use std::ops::Bound;
-
-// What stands behind the prefix, where the text has it.
-fn behind_prefix<'a>(text: &'a str, prefix: &str) -> Option<&'a str>
-    ensures { MatchOption result (has_prefix prefix.now text.now ≡ false) (λ rest. text.now ≡ prefix.now ++ rest.now) }
-{
-    match text.strip_prefix(prefix) {
-        Some(rest) => Some(rest),
-        None => None,
-    }
-}
 
 // What stands before the first `/`, where there is one.
 fn before_slash(text: &str) -> Option<&str>
@@ -71,7 +61,7 @@ fn entries_past<'a>(
 fn name_below<'a>(text: &'a str, prefix: &str) -> Option<&'a str>
     ensures { MatchOption result (has_prefix prefix.now text.now ≡ true → up_to_slash (drop (length prefix.now) text.now) ≡ None) (λ name. (has_prefix prefix.now text.now ≡ true) × (up_to_slash (drop (length prefix.now) text.now) ≡ Some (name.now ++ 47 ∷ []))) }
 {
-    match behind_prefix(text, prefix) {
+    match behind(text, prefix) {
         Some(rest) => before_slash(rest),
         None => None,
     }
@@ -126,7 +116,7 @@ pub fn list_page(
     let mut items = Vec::new(alloc);
     let mut entries = entries_behind(objects, alloc, prefix, after)?;
     while let Some((key, object)) = entries.next() {
-        let Some(rest) = behind_prefix(key.as_str(), prefix.as_str()) else {
+        let Some(rest) = behind(key.as_str(), prefix.as_str()) else {
             return Ok(Page {
                 items: Shared::from_vec(items)?,
                 more: false,

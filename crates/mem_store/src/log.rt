@@ -1,6 +1,6 @@
 ghost use Rattle.std.specs.Prelude.{◌≡◌, ◌<◌, ◌∷◌, [], ◌++◌, false, vec_len, vec_capacity};
-ghost use Rattle.bucket_model.specs.Answers.{brief_of, brings_page};
-ghost use Rattle.mem_store.specs.Served.{entry_of, made_by};
+ghost use Rattle.bucket_model.specs.Answers.{brief_of, brings_page, made_by};
+ghost use Rattle.mem_store.specs.Served.{entry_of};
 
 use bucket_model::{Answer, Brief, Call, HEntry, Logged, Name};
 

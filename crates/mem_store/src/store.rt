@@ -1,6 +1,7 @@
 ghost use Rattle.std.specs.Prelude.{◌≡◌, ◌<◌, ◌≤◌, [], length, Some, IsOk, IfOk};
 ghost use Rattle.bucket_model.specs.declared.call.Call.TheVariants.{Head, Probe, List, Get, Delete, Put, Create, Part, Complete, Abort};
-ghost use Rattle.bucket_model.specs.Answers.{brief_of, max_items, max_parts};
+ghost use Rattle.bucket_model.specs.Answers.{brief_of, max_parts};
+ghost use Rattle.mp_types.specs.Options.{max_items};
 ghost use Rattle.bucket_model.specs.Bucket.{IsSlice};
 ghost use Rattle.bucket_model.specs.History.{IsLegalHistory, versions_of};
 ghost use Rattle.mem_store.specs.Served.{IsServed, history_of};

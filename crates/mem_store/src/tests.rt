@@ -1,5 +1,6 @@
 ghost use Rattle.std.specs.Prelude.{◌<◌, ◌≤◌};
-ghost use Rattle.bucket_model.specs.Answers.{max_items, max_parts};
+ghost use Rattle.bucket_model.specs.Answers.{max_parts};
+ghost use Rattle.mp_types.specs.Options.{max_items};
 
 use crate::MemStore;
 use bucket_model::{Answer, Brief, Call, Page, PageItem};
@@ -115,8 +116,31 @@ fn is_told(wanted: Brief, got: Result<Brief, Fail>) -> Result<bool, Fail> {
     Ok(got? == wanted)
 }
 
-// Whether this answer is this one in brief.
-fn is(answer: &Answer, wanted: Brief) -> Result<bool, Fail> {
+// Whether a get of the first version at `a` brings these bytes.
+fn gets(
+    store: &mut MemStore,
+    alloc: Global,
+    from: u64,
+    to: u64,
+    wanted: &[u8],
+) -> Result<bool, Fail>
+    requires { from < to }
+{
+    let (_, answer) = get(store, alloc, "a", "v1", from, to)?;
+    Ok(brings(&answer, wanted))
+}
+
+// Whether a get of the first version at the key, up to this place, has this answer.
+fn fails_to_get(
+    store: &mut MemStore,
+    alloc: Global,
+    key: &str,
+    to: u64,
+    wanted: Brief,
+) -> Result<bool, Fail>
+    requires { 0 < to }
+{
+    let (_, answer) = get(store, alloc, key, "v1", 0, to)?;
     Ok(answer.brief()? == wanted)
 }
 
@@ -194,24 +218,25 @@ fn a_get_brings_bytes_of_its_version_alone(rt: HostRuntime) -> Result<(), Fail> 
     let alloc = rt.alloc();
     let mut store = MemStore::new(alloc)?;
     put(&mut store, alloc, "a", b"hello")?;
-    let (place, part) = get(&mut store, alloc, "a", "v1", 1, 4)?;
-    assert_eq!(rt; place, 1);
-    assert!(rt; is(&part, Brief::Bytes { length: 3 })?);
-    let (place, whole) = get(&mut store, alloc, "a", "v1", 0, 5)?;
-    assert_eq!(rt; place, 2);
-    assert!(rt; is(&whole, Brief::Bytes { length: 5 })?);
-    let (_, past_end) = get(&mut store, alloc, "a", "v1", 4, 6)?;
-    assert!(rt; is(&past_end, Brief::Changed)?);
-    let (_, missing) = get(&mut store, alloc, "b", "v1", 0, 1)?;
-    assert!(rt; is(&missing, Brief::Missing)?);
+    assert!(rt; gets(&mut store, alloc, 1, 4, b"ell")?);
+    assert!(rt; gets(&mut store, alloc, 0, 5, b"hello")?);
+    assert!(rt; fails_to_get(&mut store, alloc, "a", 6, Brief::Changed)?);
+    assert!(rt; fails_to_get(&mut store, alloc, "b", 1, Brief::Missing)?);
     put(&mut store, alloc, "a", b"other")?;
-    let (_, changed) = get(&mut store, alloc, "a", "v1", 1, 4)?;
-    assert!(rt; is(&changed, Brief::Changed)?);
-    let (_, other) = get(&mut store, alloc, "a", "v2", 1, 4)?;
-    assert!(rt; brings(&other, b"the"));
-    // What a get brought stays as it was.
-    assert!(rt; brings(&part, b"ell"));
-    assert!(rt; brings(&whole, b"hello"));
+    assert!(rt; fails_to_get(&mut store, alloc, "a", 1, Brief::Changed)?);
+    assert_eq!(rt; store.mark(), 7);
+    Ok(())
+}
+
+#[test]
+fn what_a_get_brought_stays(rt: HostRuntime) -> Result<(), Fail> {
+    let alloc = rt.alloc();
+    let mut store = MemStore::new(alloc)?;
+    put(&mut store, alloc, "a", b"hello")?;
+    let (place, got) = get(&mut store, alloc, "a", "v1", 1, 4)?;
+    assert_eq!(rt; place, 1);
+    put(&mut store, alloc, "a", b"other")?;
+    assert!(rt; brings(&got, b"ell"));
     Ok(())
 }
 
@@ -220,18 +245,23 @@ fn a_delete_leaves_no_object(rt: HostRuntime) -> Result<(), Fail> {
     let alloc = rt.alloc();
     let mut store = MemStore::new(alloc)?;
     put(&mut store, alloc, "a", b"hello")?;
-    put(&mut store, alloc, "b/c", b"")?;
+    assert!(rt; is_at(1, Brief::Gone, delete(&mut store, alloc, "a"))?);
     assert!(rt; is_at(2, Brief::Gone, delete(&mut store, alloc, "a"))?);
-    assert!(rt; is_at(3, Brief::Gone, delete(&mut store, alloc, "a"))?);
-    assert!(rt; is_at(4, Brief::Missing, head(&mut store, alloc, "a"))?);
-    let (_, gone) = get(&mut store, alloc, "a", "v1", 0, 1)?;
-    assert!(rt; is(&gone, Brief::Missing)?);
-    assert!(rt; is_at(6, Brief::Yes, probe(&mut store, alloc, "b"))?);
-    assert!(rt; is_at(7, Brief::Gone, delete(&mut store, alloc, "b/c"))?);
-    assert!(rt; is_at(8, Brief::No, probe(&mut store, alloc, "b"))?);
-    assert!(rt; is_at(9, made("v3")?, put(&mut store, alloc, "a", b"new"))?);
-    assert!(rt; is_at(10, found("v3", 3)?, head(&mut store, alloc, "a"))?);
-    assert_eq!(rt; store.mark(), 11);
+    assert!(rt; is_at(3, Brief::Missing, head(&mut store, alloc, "a"))?);
+    assert!(rt; fails_to_get(&mut store, alloc, "a", 1, Brief::Missing)?);
+    assert!(rt; is_at(5, made("v2")?, put(&mut store, alloc, "a", b"new"))?);
+    assert!(rt; is_at(6, found("v2", 3)?, head(&mut store, alloc, "a"))?);
+    Ok(())
+}
+
+#[test]
+fn a_directory_goes_with_its_last_key(rt: HostRuntime) -> Result<(), Fail> {
+    let alloc = rt.alloc();
+    let mut store = MemStore::new(alloc)?;
+    put(&mut store, alloc, "b/c", b"")?;
+    assert!(rt; is_at(1, Brief::Yes, probe(&mut store, alloc, "b"))?);
+    assert!(rt; is_at(2, Brief::Gone, delete(&mut store, alloc, "b/c"))?);
+    assert!(rt; is_at(3, Brief::No, probe(&mut store, alloc, "b"))?);
     Ok(())
 }
 

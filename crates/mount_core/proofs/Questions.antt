@@ -1,7 +1,7 @@
 -- What a line opens, removes and gives, by what it sees of the mount and by what it did before.
 use Rattle.std.proofs.Common.{◌≡◌, ◌≢◌, ℕ, Bool, true, false, not, List, [], ◌∷◌, ◌++◌, length, nat_lt, if◌then◌else◌, ◌==◌, Option, Some, None, Result, Ok, Err, refl, ap, subst}
 use Rattle.std.proofs.lemmas.Bool.{eqb-false}
-use Rattle.mp_types.specs.declared.errno.Errno.TheVariants.{Eperm, Eexist, Eisdir, Emfile, Enotempty, Einval, Efbig, Eoverflow}
+use Rattle.mp_types.specs.declared.errno.Errno.TheVariants.{Eperm, Eexist, Eisdir, Emfile, Enotempty, Eoverflow}
 use Rattle.mp_types.specs.declared.path.PathFault.{PathFault}
 use Rattle.mp_types.specs.Path.{path_of, joined}
 use Rattle.mp_types.specs.Content.{bytes_of}
@@ -19,7 +19,6 @@ use Rattle.bucket_model.specs.declared.call.Call.{Call}
 use Rattle.bucket_model.specs.declared.page.Page.{Page}
 use Rattle.bucket_model.specs.declared.answer.Brief.{Brief}
 use Rattle.bucket_model.specs.declared.answer.Brief.TheVariants as answer
-use Rattle.upload_rules.specs.declared.upload.UpState.{UpState}
 use Rattle.upload_rules.specs.declared.upload.UpState.TheVariants as state
 use Rattle.mount_model.specs.declared.handle.Handle.TheVariants.{Reading, Writing}
 use Rattle.mount_model.specs.declared.handle.Version.{Version}
@@ -31,7 +30,9 @@ use Rattle.mount_model.specs.declared.standing.Told.{Told}
 use Rattle.mount_model.specs.declared.standing.Told.TheVariants.{Fact as AFact, Answer}
 use Rattle.mount_model.specs.Heard.{nothing_heard, with_told, fact_of, told_from, told_by}
 use Rattle.mount_model.specs.Handles.{Handle}
-use Rattle.mount_model.specs.Conversation.{Next, Asks, Replies, Removes, Opens, Creates, Lists, Gives, Writes, View, Range, fails, next_of, put_next, delete_next, at_path, along, stat_at, stat_next, opens_if, open_at, create_at, open_next, make_at, make_next, remove_at, remove_next, unlink_at, unlink_next, max_pages, pages_in, last_of, asks_page, behind_page, behind_answer, list_at, list_next, range_next, range_in, read_next, write_to, write_next, sync_next, close_next}
+use Rattle.upload_rules.specs.declared.upload.UpFault.{UpFault}
+use Rattle.upload_rules.specs.Refusal.{refusal}
+use Rattle.mount_model.specs.Conversation.{Next, Asks, Replies, Removes, Opens, Creates, Lists, Gives, View, Range, fails, next_of, put_next, delete_next, at_path, along, stat_at, stat_next, opens_if, open_at, create_at, open_next, make_at, make_next, remove_at, remove_next, unlink_at, unlink_next, max_pages, pages_in, last_of, asks_page, behind_page, behind_answer, list_at, list_next, range_next, range_in, read_next, written_or, write_next, sync_next, close_next}
 use Rattle.run_laws.proofs.Conversation.{gives-read}
 use Rattle.run_laws.specs.Faithful.{IsRead}
 use Rattle.mount_core.specs.Turn.{RemovesKey}
@@ -259,18 +260,11 @@ read-fits view r (Some (Writing writer)) offset count answers = tt
 write-fits : (view : View) (r : Request) (handle : Option Handle) (offset : ℕ) (bytes : List ℕ) → Fits view r (write_next handle offset bytes)
 write-fits view r None offset bytes = tt
 write-fits view r (Some (Reading line version)) offset bytes = tt
-write-fits view r (Some (Writing w)) offset bytes = by_state w.upload.state refl
+write-fits view r (Some (Writing w)) offset bytes = by (refusal w.upload offset (length bytes))
   where
-    by_tests : (a b : Bool) (next : Next) → Fits view r next → Fits view r (if a then fails Einval else (if b then fails Efbig else next))
-    by_tests true b next fit = tt
-    by_tests false true next fit = tt
-    by_tests false false next fit = fit
-
-    by_state : (s : UpState) → w.upload.state ≡ s → Fits view r (write_to w offset bytes)
-    by_state state.Open is = rw is (by_tests _ _ (Writes _ _) tt)
-    by_state state.Finished is = rw is tt
-    by_state state.Done is = rw is tt
-    by_state (state.Failed errno) is = rw is tt
+    by : (o : Option UpFault) → Fits view r (written_or w bytes o)
+    by None = tt
+    by (Some why) = tt
 
 sync-fits : (view : View) (r : Request) (line : ℕ) (handle : Option Handle) → Fits view r (sync_next line handle)
 sync-fits view r line None = tt

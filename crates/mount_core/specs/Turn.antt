@@ -61,7 +61,7 @@ abbrev pub turn_behind : ℕ → Option Told → Work → Turn
 turn_behind number last work = turn_of_line (shared_in work) (line_at number (lines_behind number last work))
 
 abbrev pub with_part : List ℕ → List Ask → List Answered → Step → Step
-with_part drops asks replies step = record { event = step.event; drops = step.drops ++ drops; asks = step.asks ++ asks; replies = step.replies ++ replies }
+with_part drops asks replies step = record step { drops = step.drops ++ drops; asks = step.asks ++ asks; replies = step.replies ++ replies }
 
 -- all jobs so far, of which a table holds those that are ready or out
 pub record AreAll (jobs : LiveJobs) (all : List Job) : Type 0 where

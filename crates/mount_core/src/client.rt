@@ -1,4 +1,4 @@
-ghost use Rattle.std.specs.Prelude.{◌≡◌, ◌<◌, List, [], ◌↔◌, true, max, IfOk, IsTrue, Some, length, slice_get, option_copied};
+ghost use Rattle.std.specs.Prelude.{◌≡◌, ◌<◌, [], ◌↔◌, true, max, IfOk, IsTrue, Some, length, slice_get, option_copied};
 ghost use Rattle.std.specs.List.{AllByRecursion};
 ghost use Rattle.mp_types.specs.Options.{AreWithin};
 ghost use Rattle.bucket_model.specs.Answers.{MayBeMade, brief_of, bytes_in};

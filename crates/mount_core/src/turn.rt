@@ -1,4 +1,4 @@
-ghost use Rattle.std.specs.Prelude.{◌≡◌, ◌≢◌, ℕ, List, length, false, Some, None, OnOk, OnErr, ◌⊎◌};
+ghost use Rattle.std.specs.Prelude.{◌≡◌, ℕ, List, length, false, Some, None, OnOk, OnErr, ◌⊎◌};
 ghost use Rattle.bucket_model.specs.declared.answer.Brief.TheVariants as answer;
 ghost use Rattle.bucket_model.specs.declared.page.Page.{Page};
 ghost use Rattle.mount_model.specs.declared.standing.Heard.{Heard};

@@ -1,4 +1,4 @@
-ghost use Rattle.std.specs.Prelude.{◌≡◌, ◌≢◌, ◌+◌, ◌^◌, ◌<◌, ◌≤◌, List, [], ◌∷◌, ◌++◌, map, max, true, Option, Some, None, IfOk, option_copied};
+ghost use Rattle.std.specs.Prelude.{◌≡◌, ◌+◌, ◌^◌, ◌<◌, ◌≤◌, [], ◌∷◌, ◌++◌, map, max, true, Option, Some, IfOk, option_copied};
 ghost use Rattle.mp_types.specs.Options.{AreWithin};
 ghost use Rattle.mount_model.specs.declared.event.Event.TheVariants.{Begin, Take, Done};
 ghost use Rattle.mount_model.specs.declared.standing.Phase.TheVariants.{Begun};

@@ -10,7 +10,6 @@ ghost use Rattle.mount_model.specs.Handles.{Writer as WriterAt};
 ghost use Rattle.mount_model.specs.Step.{HasStep};
 ghost use Rattle.mount_model.specs.State.{handle_behind, handle_name, has_effect, is_answered, line_at, names_behind, turn_of_writer, with_names};
 ghost use Rattle.mount_model.specs.Conversation.{Creates};
-ghost use Rattle.mount_model.specs.Writers.{is_under_way};
 ghost use Rattle.line_table.specs.Table.{HasBegun};
 ghost use Rattle.job_table.specs.LiveJobs.{purpose_of};
 ghost use Rattle.local_names.specs.Names.{is_name};
@@ -105,20 +104,6 @@ impl Work {
         match name_in(&standing.line.request) {
             Some(name) => (standing.line.actor, name),
             None => (standing.line.actor, 0),
-        }
-    }
-
-    // Whether the writer under the name takes bytes or waits for its object.
-    fn is_under_way(&self, actor: u16, name: u16) -> bool
-        requires { IsWriting (actor, name) self.now.handles }
-        ensures { (w : WriterAt) → get self.now.handles (actor, name) ≡ Some (Writing w) → result ≡ is_under_way w.upload.state }
-    {
-        let Some(Handle::Writing(writer)) = self.handles.get(actor, name) else {
-            unreachable!()
-        };
-        match writer.upload.state() {
-            UpState::Open | UpState::Finished => true,
-            UpState::Done | UpState::Failed(_) => false,
         }
     }
 
@@ -265,8 +250,7 @@ impl Work {
         ensures { (last : Option Told) (bytes : List ℕ) → last ≡ None → Takes (turn_behind line last self.old) (lines_behind line last self.old) bytes self.old self.new }
     {
         let (actor, name) = self.named_by(line);
-        let was_under_way = self.is_under_way(actor, name);
-        file_handles::wait(&mut self.handles, actor, name, waiter);
+        let was_under_way = file_handles::wait(&mut self.handles, actor, name, waiter);
         self.turn_writer(actor, name, was_under_way);
     }
 

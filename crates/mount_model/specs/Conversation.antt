@@ -1,5 +1,5 @@
 -- What a line does next, by what it sees of the mount and what it has heard of its own calls so far.
-use Rattle.std.specs.Prelude.{ℕ, ◌+◌, ◌*◌, List, [], ◌∷◌, length, min, Bool, false, not, ◌||◌, ◌==◌, nat_le, nat_lt, if◌then◌else◌, Option, Some, None, Result, Ok, Err}
+use Rattle.std.specs.Prelude.{ℕ, ◌+◌, List, [], ◌∷◌, length, min, Bool, false, not, ◌||◌, ◌==◌, nat_le, nat_lt, if◌then◌else◌, Option, Some, None, Result, Ok, Err}
 use Rattle.std.specs.List.{filter_map}
 use Rattle.mp_types.specs.declared.errno.Errno.{Errno}
 use Rattle.mp_types.specs.declared.errno.Errno.TheVariants.{Eperm, Eio, Ebadf, Enomem, Enoent, Eexist, Eisdir, Enotdir, Einval, Emfile, Efbig, Enametoolong, Enotempty, Eoverflow, Estale}
@@ -22,10 +22,12 @@ use Rattle.bucket_model.specs.declared.call.Call.TheVariants as call
 use Rattle.bucket_model.specs.declared.answer.Brief.{Brief}
 use Rattle.bucket_model.specs.declared.answer.Brief.TheVariants as answer
 use Rattle.bucket_model.specs.declared.answer.Brief.TheVariants.{Missing, Bytes, Changed, Gone, Made, NoMemory}
-use Rattle.bucket_model.specs.Answers.{max_parts}
 use Rattle.upload_rules.specs.declared.upload.UpState.{UpState}
 use Rattle.upload_rules.specs.declared.upload.UpState.TheVariants as state
-use Rattle.upload_rules.specs.Upload.{Upload, written, with_bytes, with_closing, finished}
+use Rattle.upload_rules.specs.declared.upload.UpFault.{UpFault}
+use Rattle.upload_rules.specs.declared.upload.UpFault.TheVariants as up
+use Rattle.upload_rules.specs.Refusal.{refusal}
+use Rattle.upload_rules.specs.Upload.{Upload, with_bytes, with_closing, finished}
 use Rattle.mount_model.specs.declared.standing.Heard.{Heard}
 use Rattle.mount_model.specs.Heard.{call_of}
 use Rattle.mount_model.specs.declared.handle.Handle.TheVariants.{Reading, Writing}
@@ -252,26 +254,26 @@ read_next (Some (Reading line version)) offset count answers = range_next versio
 read_next other offset count answers = fails Ebadf
 
 abbrev pub with_upload : Upload → Writer → Writer
-with_upload upload writer = record { line = writer.line; key = writer.key; upload = upload; waiter = writer.waiter }
+with_upload upload writer = record writer { upload = upload }
 
 abbrev pub waited_for : Waiter → Upload → Writer → Writer
-waited_for who upload writer = record { line = writer.line; key = writer.key; upload = upload; waiter = who }
+waited_for who upload writer = record writer { upload = upload; waiter = who }
 
--- a write has to begin at the end, and an upload has so many parts at most
-abbrev pub write_at : Writer → ℕ → List ℕ → Next
-write_at writer offset bytes =
-    if not (offset == written writer.upload) then fails Einval
-    else (if nat_lt (writer.upload.part * max_parts) (offset + length bytes) then fails Efbig
-    else Writes (length bytes) (with_upload (with_bytes bytes writer.upload) writer))
+-- the error of a write that isn't taken
+abbrev pub errno_for : UpFault → Errno
+errno_for (up.Failed errno) = errno
+errno_for up.Finished = Einval
+errno_for up.OutOfOrder = Einval
+errno_for up.TooBig = Efbig
+errno_for up.Memory = Enomem
 
--- a writer takes bytes until it is at its end, or has failed
+-- the writer takes the bytes, unless there is a reason not to
+abbrev pub written_or : Writer → List ℕ → Option UpFault → Next
+written_or writer bytes None = Writes (length bytes) (with_upload (with_bytes bytes writer.upload) writer)
+written_or writer bytes (Some why) = fails (errno_for why)
+
 abbrev pub write_to : Writer → ℕ → List ℕ → Next
-write_to writer offset bytes = by_state writer.upload.state
-  where
-    by_state : UpState → Next
-    by_state state.Open = write_at writer offset bytes
-    by_state (state.Failed errno) = fails errno
-    by_state other = fails Einval
+write_to writer offset bytes = written_or writer bytes (refusal writer.upload offset (length bytes))
 
 abbrev pub write_next : Option Handle → ℕ → List ℕ → Next
 write_next (Some (Writing writer)) offset bytes = write_to writer offset bytes

@@ -17,8 +17,8 @@ abbrev pub nothing_heard : Heard
 nothing_heard = record { facts = []; answers = [] }
 
 abbrev pub with_told : Told → Heard → Heard
-with_told (AFact known) heard = record { facts = with_known known heard.facts; answers = heard.answers }
-with_told (Answer answer) heard = record { facts = heard.facts; answers = heard.answers ++ answer ∷ [] }
+with_told (AFact known) heard = record heard { facts = with_known known heard.facts }
+with_told (Answer answer) heard = record heard { answers = heard.answers ++ answer ∷ [] }
 
 -- a question as a call
 abbrev pub call_of : Question → Call

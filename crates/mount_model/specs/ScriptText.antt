@@ -185,35 +185,12 @@ delete_of (key ∷ []) = do
   Ok (Delete k)
 delete_of words = Err cause.Words
 
--- the path of a request that has no other words
-abbrev pub path_words : List (List ℕ) → Result (List ℕ) ScriptCause
-path_words (path ∷ []) = text_of path
-path_words words = Err cause.Words
-
-abbrev pub stat_of : List (List ℕ) → Result Request ScriptCause
-stat_of words = do
-  p ← path_words words
-  Ok (Stat p)
-
-abbrev pub list_of : List (List ℕ) → Result Request ScriptCause
-list_of words = do
-  p ← path_words words
-  Ok (request.List p)
-
-abbrev pub make_of : List (List ℕ) → Result Request ScriptCause
-make_of words = do
-  p ← path_words words
-  Ok (MakeDir p)
-
-abbrev pub remove_of : List (List ℕ) → Result Request ScriptCause
-remove_of words = do
-  p ← path_words words
-  Ok (RemoveDir p)
-
-abbrev pub unlink_of : List (List ℕ) → Result Request ScriptCause
-unlink_of words = do
-  p ← path_words words
-  Ok (Unlink p)
+-- a request that names a path alone
+abbrev pub path_only : (List ℕ → Request) → List (List ℕ) → Result Request ScriptCause
+path_only asks (path ∷ []) = do
+  p ← text_of path
+  Ok (asks p)
+path_only asks words = Err cause.Words
 
 abbrev pub await_of : List (List ℕ) → Result Request ScriptCause
 await_of [] = Ok Await
@@ -231,8 +208,8 @@ change_of verb words =
 -- what a process asks for
 abbrev pub asked_by_process : List ℕ → List (List ℕ) → Result Request ScriptCause
 asked_by_process verb words =
-    if is_word verb (codes "stat") then stat_of words
-    else (if is_word verb (codes "list") then list_of words
+    if is_word verb (codes "stat") then path_only Stat words
+    else (if is_word verb (codes "list") then path_only request.List words
     else (if is_word verb (codes "openr") then open_of OpenRead words
     else (if is_word verb (codes "openw") then open_of OpenWrite words
     else (if is_word verb (codes "opent") then open_of OpenTruncate words
@@ -240,9 +217,9 @@ asked_by_process verb words =
     else (if is_word verb (codes "write") then write_of words
     else (if is_word verb (codes "fsync") then handle_only Sync words
     else (if is_word verb (codes "close") then handle_only Close words
-    else (if is_word verb (codes "mkdir") then make_of words
-    else (if is_word verb (codes "rmdir") then remove_of words
-    else (if is_word verb (codes "unlink") then unlink_of words else Err cause.Verb)))))))))))
+    else (if is_word verb (codes "mkdir") then path_only MakeDir words
+    else (if is_word verb (codes "rmdir") then path_only RemoveDir words
+    else (if is_word verb (codes "unlink") then path_only Unlink words else Err cause.Verb)))))))))))
 
 -- processes ask, the others change the bucket, and all may wait
 abbrev pub request_of : ℕ → List ℕ → List (List ℕ) → Result Request ScriptCause
@@ -266,11 +243,11 @@ words_asked (first ∷ words) = do
   Ok (record { actor = actor; request = request })
 
 -- the words of a line stand between single spaces
+abbrev pub words_of : List ℕ → List (List ℕ)
+words_of line = slice_split (λ byte. byte == 32) line
+
 abbrev pub asked_of : List ℕ → Result Asked ScriptCause
 asked_of line = if list_any (λ word. length word == 0) (words_of line) then Err cause.Words else words_asked (words_of line)
-  where
-    words_of : List ℕ → List (List ℕ)
-    words_of line = slice_split (λ byte. byte == 32) line
 
 pub record BadLine : Type 0 where
   pub line : ℕ

@@ -79,13 +79,13 @@ abbrev pub line_at : ℕ → List Standing → Option Standing
 line_at number lines = find (λ s. s.line.number == number) lines
 
 abbrev pub change_line : ℕ → (Phase → Phase) → List Standing → List Standing
-change_line number f lines = map (λ s. if s.line.number == number then record { line = s.line; phase = f s.phase } else s) lines
+change_line number f lines = map (λ (s : Standing). if s.line.number == number then record s { phase = f s.phase } else s) lines
 
 abbrev pub job_at : ℕ → List Job → Option Job
 job_at number jobs = find (λ job. job.number == number) jobs
 
 abbrev pub in_phase : JobPhase → Job → Job
-in_phase phase job = record { number = job.number; owner = job.owner; line = job.line; call = job.call; phase = phase }
+in_phase phase job = record job { phase = phase }
 
 abbrev pub change_job : ℕ → JobPhase → List Job → List Job
 change_job number phase jobs = map (λ job. if job.number == number then in_phase phase job else job) jobs
@@ -268,10 +268,10 @@ with_replies lines replies = fold with_answered lines replies
 -- what a step does to what all lines see
 
 abbrev pub with_handles : Handles → Shared → Shared
-with_handles handles shared = record { options = shared.options; handles = handles; names = shared.names }
+with_handles handles shared = record shared { handles = handles }
 
 abbrev pub with_names : LocalNames → Shared → Shared
-with_names names shared = record { options = shared.options; handles = shared.handles; names = names }
+with_names names shared = record shared { names = names }
 
 abbrev pub holds : HandleName → Handle → Shared → Shared
 holds name handle shared = with_handles (table.insert shared.handles name handle) shared
@@ -309,7 +309,7 @@ abbrev pub handle_behind : HandleName → Writer → Upload → Bool → Shared 
 handle_behind name writer upload answered shared = by_waiter answered writer.waiter
   where
     keeps : Waiter → Shared
-    keeps who = holds name (Writing (record { line = writer.line; key = writer.key; upload = upload; waiter = who })) shared
+    keeps who = holds name (Writing (record writer { upload = upload; waiter = who })) shared
 
     by_waiter : Bool → Waiter → Shared
     by_waiter true (waiter.Close line) = lets_go name shared

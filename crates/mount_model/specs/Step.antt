@@ -19,13 +19,13 @@ abbrev pub step_of : Event → Step
 step_of event = record { event = event; drops = []; asks = []; replies = [] }
 
 abbrev pub with_drop : ℕ → Step → Step
-with_drop job step = record { event = step.event; drops = step.drops ++ job ∷ []; asks = step.asks; replies = step.replies }
+with_drop job step = record step { drops = step.drops ++ job ∷ [] }
 
 abbrev pub with_ask : Ask → Step → Step
-with_ask ask step = record { event = step.event; drops = step.drops; asks = step.asks ++ ask ∷ []; replies = step.replies }
+with_ask ask step = record step { asks = step.asks ++ ask ∷ [] }
 
 abbrev pub with_reply : Answered → Step → Step
-with_reply reply step = record { event = step.event; drops = step.drops; asks = step.asks; replies = step.replies ++ reply ∷ [] }
+with_reply reply step = record step { replies = step.replies ++ reply ∷ [] }
 
 -- the last item changed
 abbrev pub change_last : {X : Type 0} → (X → X) → List X → List X

@@ -11,7 +11,7 @@ use Rattle.upload_rules.specs.declared.upload.Created.{Created}
 use Rattle.upload_rules.specs.declared.upload.Created.TheVariants as created
 use Rattle.upload_rules.specs.declared.upload.UpAsk.{UpAsk}
 use Rattle.upload_rules.specs.declared.upload.UpAsk.TheVariants.{Create, Part, Complete, Abort}
-use Rattle.upload_rules.specs.Upload.{Upload, due, next_part, with_ask, with_id, with_stored, completed, given_up, with_failure, fails_with, with_back}
+use Rattle.upload_rules.specs.Upload.{Upload, due, next_part, with_id, with_stored, completed, given_up, with_failure, fails_with, with_back, with_due}
 use Rattle.mount_model.specs.declared.event.AskedCall.{AskedCall}
 use Rattle.mount_model.specs.declared.event.AskedCall.TheVariants as asked
 use Rattle.mount_model.specs.declared.event.Answered.{Answered}
@@ -35,10 +35,6 @@ asking_for key u Create = record { call = call.Create key; told = asked.Create k
 asking_for key u (Part number from to) = record { call = call.Part (id_in u.created) number (next_part u); told = asked.Part (id_in u.created) number from to }
 asking_for key u (Complete parts) = record { call = call.Complete (id_in u.created) parts; told = asked.Complete (id_in u.created) parts }
 asking_for key u Abort = record { call = call.Abort (id_in u.created); told = asked.Abort (id_in u.created) }
-
-abbrev pub with_due : Option UpAsk → Upload → Upload
-with_due None u = u
-with_due (Some ask) u = with_ask ask u
 
 -- the upload behind so many asks
 abbrev pub ask_times : ℕ → Upload → Upload

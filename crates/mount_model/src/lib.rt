@@ -14,4 +14,4 @@ pub use fault::{ScriptCause, What};
 pub use handle::{Handle, Version, Waiter, Writer};
 pub use record::{Item, Record};
 pub use request::{Line, Reply, Request, Script};
-pub use standing::{Heard, Phase, Standing, Told, question_of, told_by};
+pub use standing::{Heard, Phase, Standing, Told, errno_of, told_by};

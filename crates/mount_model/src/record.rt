@@ -1,4 +1,4 @@
-ghost use Rattle.std.specs.Prelude.{◌≡◌, ◌+◌, ◌<◌, ◌≤◌, List, [], ◌∷◌, ◌++◌, OnOk};
+ghost use Rattle.std.specs.Prelude.{◌≡◌, ◌+◌, ◌<◌, ◌≤◌, [], ◌∷◌, ◌++◌, OnOk};
 ghost use Rattle.mount_model.specs.declared.record.Item.TheVariants as item;
 ghost use Rattle.mount_model.specs.Step.{step_of, steps_of, with_drop, with_ask, with_reply, change_last, HasStep, IsRow};
 

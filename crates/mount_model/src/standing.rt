@@ -1,10 +1,11 @@
-ghost use Rattle.std.specs.Prelude.{◌≡◌, OnOk, OnErr, IfOk};
-ghost use Rattle.mount_model.specs.Heard.{nothing_heard, with_told, told_by, question_of};
+ghost use Rattle.std.specs.Prelude.{◌≡◌, OnOk, OnErr};
+ghost use Rattle.mount_model.specs.Conversation.{errno_of};
+ghost use Rattle.mount_model.specs.Heard.{nothing_heard, with_told, told_by};
 
 use crate::Line;
-use bucket_model::{Brief, Call};
+use bucket_model::Brief;
 use mp_rules::{Fact, Known, OwnFacts, Question};
-use mp_types::Items;
+use mp_types::{Errno, Items};
 use std::alloc::{AllocError, Global};
 
 /// What a line has heard of its own calls.
@@ -105,20 +106,12 @@ pub fn told_by(question: Option<Question>, answer: Brief) -> Told
     }
 }
 
-/// The question that a call asks, if it asks one.
-pub fn question_of(alloc: Global, call: &Call) -> Result<Option<Question>, AllocError>
-    ensures { IfOk result (λ question. question ≡ question_of call.now) }
+/// The error of a call that failed, or whose answer doesn't fit it.
+pub fn errno_of(answer: &Brief) -> Errno
+    ensures { result ≡ errno_of answer.now }
 {
-    match call {
-        Call::Head { key } => Ok(Some(Question::Head(key.copy(alloc)?))),
-        Call::Probe { key } => Ok(Some(Question::Probe(key.copy(alloc)?))),
-        Call::List { .. }
-        | Call::Get { .. }
-        | Call::Delete { .. }
-        | Call::Put { .. }
-        | Call::Create { .. }
-        | Call::Part { .. }
-        | Call::Complete { .. }
-        | Call::Abort { .. } => Ok(None),
+    match answer {
+        Brief::NoMemory => Errno::Enomem,
+        _ => Errno::Eio,
     }
 }

@@ -14,7 +14,7 @@ use Rattle.mp_driver.specs.Drive.{IsTiedTo, ReadsOver, WrittenOver, HasFewFaults
 use Rattle.mp_record.specs.Appends.{Appends, AppendsFront}
 use Rattle.mount_one.specs.Reading.{IsSpent}
 use Rattle.mount_one.specs.declared.status.Status.{Status}
-use Rattle.mount_one.specs.declared.status.Status.TheVariants.{Done, BadScript, TooLong, Usage, SourceFault, SinkFault, NoMemory}
+use Rattle.mount_one.specs.declared.status.Status.TheVariants.{Done, BadScript, TooLong, SourceFault, SinkFault, NoMemory}
 
 -- the one word that the program takes
 abbrev pub AreWords : List (List ℕ) → Type 0
@@ -66,39 +66,27 @@ pub record WritesFront (input : Option (List ℕ)) (start : ℕ) (is_alone is_ho
 -- the statuses with which nothing is written and no bucket call is made
 abbrev pub IsRefusal : Status → Type 0
 IsRefusal Done = ⊥
-IsRefusal (BadScript line cause) = Unit {0}
-IsRefusal (TooLong what) = Unit {0}
-IsRefusal Usage = Unit {0}
-IsRefusal SourceFault = Unit {0}
 IsRefusal SinkFault = ⊥
 IsRefusal NoMemory = ⊥
+IsRefusal other = Unit {0}
 
 -- the script was served to its end, or there was no memory
 abbrev pub IsServed : Status → Type 0
 IsServed Done = Unit {0}
 IsServed NoMemory = Unit {0}
-IsServed (BadScript line cause) = ⊥
-IsServed (TooLong what) = ⊥
-IsServed Usage = ⊥
-IsServed SourceFault = ⊥
-IsServed SinkFault = ⊥
+IsServed other = ⊥
 
 -- why there is no script, by the status
 abbrev pub Refuses : Option (List ℕ) → Status → Option (List ℕ) → Type 0 → Type 0
-Refuses input Done left failed = ⊥
 Refuses input (BadScript line cause) left failed = SpellsNone input (Bad line cause) × IsSpent left
 Refuses input (TooLong what) left failed = IsTooLong input what
-Refuses input Usage left failed = ⊥
 Refuses input SourceFault left failed = failed
-Refuses input SinkFault left failed = ⊥
 Refuses input NoMemory left failed = Unit {0}
+Refuses input other left failed = ⊥
 
 -- what stands written when a script has been served, by the status
 abbrev pub Ends : Status → Type 0 → Type 0 → Type 0 → Type 0 → Type 0
 Ends Done whole front failed nothing = whole
-Ends (BadScript line cause) whole front failed nothing = ⊥
-Ends (TooLong what) whole front failed nothing = ⊥
-Ends Usage whole front failed nothing = ⊥
-Ends SourceFault whole front failed nothing = ⊥
 Ends SinkFault whole front failed nothing = failed × front
 Ends NoMemory whole front failed nothing = nothing ⊎ front
+Ends other whole front failed nothing = ⊥

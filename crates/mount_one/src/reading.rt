@@ -1,4 +1,4 @@
-ghost use Rattle.std.specs.Prelude.{◌≡◌, ◌+◌, ◌<◌, ◌≤◌, ◌^◌, ℕ, List, [], ◌++◌, length, IfOk, OnErr, IsErrOf};
+ghost use Rattle.std.specs.Prelude.{◌≡◌, ◌+◌, ◌<◌, ◌≤◌, ◌^◌, ℕ, List, length, IfOk, IsErrOf};
 ghost use Rattle.std.specs.Prelude.{Result, Option, vec_len};
 ghost use Rattle.mp_types.specs.Count.{HasRisen};
 ghost use Rattle.mount_one.specs.Reading.{Gathers, IsSpent, IsLonger};

@@ -1,4 +1,4 @@
-ghost use Rattle.std.specs.Prelude.{◌≡◌, ℕ, ◌≤◌, List, Option, Some, ◌↔◌, ◌⊎◌, IsTrue, IfOk, IfErr};
+ghost use Rattle.std.specs.Prelude.{◌≡◌, ℕ, List, Option, Some, ◌↔◌, ◌⊎◌, IsTrue, IfOk, IfErr};
 ghost use Rattle.mp_types.specs.Count.{HasRisen};
 ghost use Rattle.mount_model.specs.declared.fault.ScriptCause.{ScriptCause};
 ghost use Rattle.mount_model.specs.declared.fault.What.{What};
@@ -15,13 +15,10 @@ use mount_model::{Script, What};
 use mp_driver::{Schedule, drive};
 use mp_io::{Clock, Sink, Source};
 use mp_record::{PrintFault, print_record};
-use mp_script::{ScriptError, read_script};
+use mp_script::{MAX_BYTES, ScriptError, read_script};
 use mp_types::{Opts, Text};
 use std::alloc::Global;
 use store_trait::Store;
-
-// A script has at most this many bytes.
-const MAX_BYTES: usize = 67_108_864;
 
 fn are_words(words: &[Text]) -> bool
     ensures { IsTrue result ↔ AreWords words.now }

@@ -1,12 +1,10 @@
-ghost use Rattle.std.specs.Prelude.{◌≡◌, option_copied, option_to_list, slice_get};
-ghost use Rattle.mount_model.specs.Conversation.{errno_of};
+ghost use Rattle.std.specs.Prelude.{◌≡◌, option_copied, slice_get};
 ghost use Rattle.mount_plan.specs.Meant.{with_last};
 ghost use Rattle.mount_plan.specs.Last.{last_answer, last_fact, last_in};
 
 use bucket_model::Brief;
 use mount_model::{Heard, Told};
 use mp_rules::Known;
-use mp_types::Errno;
 
 /// The last answer, where it told a fact.
 pub fn last_fact(last: Option<&Told>) -> Option<&Known>
@@ -43,14 +41,4 @@ pub fn first_answer<'a>(heard: &'a Heard, last: Option<&'a Told>) -> Option<&'a 
     ensures { option_copied result ≡ slice_get (with_last (option_copied last.entry) heard.now).answers 0 }
 {
     heard.answers.as_slice().first().or(last_answer(last))
-}
-
-/// The error of a call that failed, or whose answer doesn't fit.
-pub fn errno(answer: &Brief) -> Errno
-    ensures { result ≡ errno_of answer.now }
-{
-    match answer {
-        Brief::NoMemory => Errno::Enomem,
-        _ => Errno::Eio,
-    }
 }

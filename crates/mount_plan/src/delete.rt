@@ -4,9 +4,9 @@ ghost use Rattle.mount_model.specs.Conversation.{Replies, delete_next};
 ghost use Rattle.mount_plan.specs.Meant.{MeansOne, with_last};
 
 use crate::LinePlan;
-use crate::answered::{errno, first_answer};
+use crate::answered::first_answer;
 use bucket_model::Brief;
-use mount_model::{Heard, Reply, Told};
+use mount_model::{Heard, Reply, Told, errno_of};
 use mp_types::Key;
 
 fn delete_reply(answer: &Brief) -> Reply
@@ -14,7 +14,7 @@ fn delete_reply(answer: &Brief) -> Reply
 {
     match answer {
         Brief::Gone => Reply::Gone,
-        _ => Reply::Failed(errno(answer)),
+        _ => Reply::Failed(errno_of(answer)),
     }
 }
 

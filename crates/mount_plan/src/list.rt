@@ -6,13 +6,13 @@ ghost use Rattle.mount_plan.specs.Meant.{MeansOne, with_last};
 ghost use Rattle.mount_plan.specs.Seen.{view_of};
 ghost use Rattle.mount_plan.specs.Unkept.{unkept_errno};
 
-use crate::answered::{errno, newest_answer};
+use crate::answered::newest_answer;
 use crate::lookup::{Found, look_up, path_errno};
 use crate::planned::failed;
 use crate::{LinePlan, View};
 use bucket_model::{Brief, Page};
 use dir_reader::last_text_of;
-use mount_model::{Heard, Told};
+use mount_model::{Heard, Told, errno_of};
 use mp_rules::Entry;
 use mp_types::{Errno, below_root};
 
@@ -69,7 +69,7 @@ fn answer_plan<'a>(
 {
     match answer {
         Brief::Page(page) => page_plan(path, view, heard, last, page),
-        _ => failed(errno(answer)),
+        _ => failed(errno_of(answer)),
     }
 }
 

@@ -5,10 +5,10 @@ ghost use Rattle.mount_plan.specs.Looked.{IsFound, IsShort};
 ghost use Rattle.mount_plan.specs.Meant.{with_last};
 ghost use Rattle.mount_plan.specs.Seen.{view_of};
 
-use crate::answered::{errno, first_answer, last_fact};
+use crate::answered::{first_answer, last_fact};
 use crate::planned::failed;
 use crate::{LinePlan, View};
-use mount_model::{Heard, Told};
+use mount_model::{Heard, Told, errno_of};
 use mp_rules::Entry;
 use mp_types::{Errno, PathFault};
 use superblock::{Decision, decide};
@@ -48,7 +48,7 @@ pub fn look_up<'a>(
         return Ok(Found::Root);
     }
     if let Some(answer) = first_answer(heard, last) {
-        return Err(failed(errno(answer)));
+        return Err(failed(errno_of(answer)));
     }
     match decide(below, view.names, &heard.facts, last_fact(last)) {
         Decision::Probe(key) => Err(LinePlan::Probe(key)),

@@ -1,4 +1,4 @@
-ghost use Rattle.std.specs.Prelude.{◌≡◌, ◌<◌, ◌≤◌, length, option_copied};
+ghost use Rattle.std.specs.Prelude.{◌<◌, ◌≤◌, length, option_copied};
 ghost use Rattle.mp_types.specs.Path.{path_of};
 ghost use Rattle.mount_model.specs.Conversation.{create_at, open_at, open_next};
 ghost use Rattle.mount_plan.specs.Meant.{MeansOne, with_last};

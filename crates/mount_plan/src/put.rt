@@ -5,9 +5,9 @@ ghost use Rattle.mount_model.specs.Conversation.{Replies, put_next};
 ghost use Rattle.mount_plan.specs.Meant.{MeansOne, with_last};
 
 use crate::LinePlan;
-use crate::answered::{errno, first_answer};
+use crate::answered::first_answer;
 use bucket_model::Brief;
-use mount_model::{Heard, Reply, Told};
+use mount_model::{Heard, Reply, Told, errno_of};
 use mp_types::{Data, Key};
 
 fn put_reply(answer: &Brief) -> Reply
@@ -15,7 +15,7 @@ fn put_reply(answer: &Brief) -> Reply
 {
     match answer {
         Brief::Made(etag) => Reply::Made(etag.copy()),
-        _ => Reply::Failed(errno(answer)),
+        _ => Reply::Failed(errno_of(answer)),
     }
 }
 

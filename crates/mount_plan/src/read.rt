@@ -5,10 +5,10 @@ ghost use Rattle.mount_model.specs.Conversation.{Range, range_in, range_next, re
 ghost use Rattle.mount_plan.specs.Meant.{MeansOne, with_last};
 
 use crate::LinePlan;
-use crate::answered::{errno, first_answer};
+use crate::answered::first_answer;
 use crate::planned::failed;
 use bucket_model::Brief;
-use mount_model::{Handle, Heard, Told, Version};
+use mount_model::{Handle, Heard, Told, Version, errno_of};
 use mp_types::Errno;
 use part_uploader::Uploader;
 
@@ -28,7 +28,7 @@ fn got<'a>(answer: &Brief) -> LinePlan<'a>
     match answer {
         Brief::Bytes { length } => LinePlan::Give { count: *length },
         Brief::Changed | Brief::Missing => failed(Errno::Estale),
-        _ => failed(errno(answer)),
+        _ => failed(errno_of(answer)),
     }
 }
 

@@ -206,14 +206,22 @@ fn is_directory(plan: Plan) -> bool {
 }
 
 #[test]
-fn a_stat_tells_what_stands_there(rt: HostRuntime) -> Result<(), Fail> {
+fn a_stat_asks_what_it_lacks(rt: HostRuntime) -> Result<(), Fail> {
     let names = Locals::new(rt.alloc());
     let request = stat(rt.alloc(), "/a")?;
     let nothing = Heard::new(rt.alloc());
     let heard = bare(rt.alloc())?;
-    let file = found(rt.alloc(), "a", 5)?;
     assert!(rt; asks_probe(goes_by(&names, &request, &nothing), "a"));
     assert!(rt; asks_head(goes_by(&names, &request, &heard), "a"));
+    Ok(())
+}
+
+#[test]
+fn a_stat_tells_what_stands_there(rt: HostRuntime) -> Result<(), Fail> {
+    let names = Locals::new(rt.alloc());
+    let request = stat(rt.alloc(), "/a")?;
+    let heard = bare(rt.alloc())?;
+    let file = found(rt.alloc(), "a", 5)?;
     assert!(rt; has_size(plan(sees(&names), &request, &heard, Some(&file)), 5));
     Ok(())
 }
@@ -368,15 +376,20 @@ fn a_reader_takes_no_bytes(rt: HostRuntime) -> Result<(), Fail> {
 }
 
 #[test]
-fn a_directory_is_listed_page_by_page(rt: HostRuntime) -> Result<(), Fail> {
+fn a_listing_asks_for_its_first_page(rt: HostRuntime) -> Result<(), Fail> {
+    let names = Locals::new(rt.alloc());
+    let request = list(rt.alloc(), "/")?;
+    let nothing = Heard::new(rt.alloc());
+    assert!(rt; asks_page(goes_by(&names, &request, &nothing), "/", ""));
+    Ok(())
+}
+
+#[test]
+fn the_next_page_is_asked_for_behind_the_last_item(rt: HostRuntime) -> Result<(), Fail> {
     let names = Locals::new(rt.alloc());
     let request = list(rt.alloc(), "/")?;
     let nothing = Heard::new(rt.alloc());
     let first = page(rt.alloc(), "a/", true)?;
-    let end = page(rt.alloc(), "b/", false)?;
-    let mut heard = Heard::new(rt.alloc());
-    heard.hear(page(rt.alloc(), "a/", true)?)?;
-    assert!(rt; asks_page(plan(sees(&names), &request, &nothing, None), "/", ""));
     assert!(rt;
         asks_page(
             plan(sees(&names), &request, &nothing, Some(&first)),
@@ -384,26 +397,43 @@ fn a_directory_is_listed_page_by_page(rt: HostRuntime) -> Result<(), Fail> {
             "a/"
         )
     );
-    assert!(rt; asks_page(plan(sees(&names), &request, &heard, None), "/", "a/"));
+    Ok(())
+}
+
+#[test]
+fn a_listing_ends_with_its_last_page(rt: HostRuntime) -> Result<(), Fail> {
+    let names = Locals::new(rt.alloc());
+    let request = list(rt.alloc(), "/")?;
+    let end = page(rt.alloc(), "b/", false)?;
+    let mut heard = Heard::new(rt.alloc());
+    heard.hear(page(rt.alloc(), "a/", true)?)?;
+    assert!(rt; asks_page(goes_by(&names, &request, &heard), "/", "a/"));
     assert!(rt; lists(plan(sees(&names), &request, &heard, Some(&end)), "/"));
     Ok(())
 }
 
 #[test]
-fn only_a_directory_is_listed(rt: HostRuntime) -> Result<(), Fail> {
+fn a_file_is_not_listed(rt: HostRuntime) -> Result<(), Fail> {
     let names = Locals::new(rt.alloc());
-    let below = made(rt.alloc(), "a")?;
     let request = list(rt.alloc(), "/a")?;
-    let nothing = Heard::new(rt.alloc());
     let heard = bare(rt.alloc())?;
     let file = found(rt.alloc(), "a", 5)?;
-    assert!(rt; asks_probe(goes_by(&names, &request, &nothing), "a"));
     assert!(rt;
         fails(
             plan(sees(&names), &request, &heard, Some(&file)),
             Errno::Enotdir
         )
     );
+    Ok(())
+}
+
+#[test]
+fn a_local_directory_is_listed(rt: HostRuntime) -> Result<(), Fail> {
+    let below = made(rt.alloc(), "a")?;
+    let request = list(rt.alloc(), "/a")?;
+    let nothing = Heard::new(rt.alloc());
+    let heard = bare(rt.alloc())?;
+    assert!(rt; asks_probe(goes_by(&below, &request, &nothing), "a"));
     assert!(rt; asks_page(goes_by(&below, &request, &heard), "/a", ""));
     Ok(())
 }

@@ -1,4 +1,4 @@
-ghost use Rattle.std.specs.Prelude.{◌≡◌, ℕ, List, Option};
+ghost use Rattle.std.specs.Prelude.{ℕ, List, Option};
 ghost use Rattle.mp_io.specs.Bytes.{Gives};
 
 /// A clock that is read by one thread. Readings are in milliseconds, from any zero.

@@ -1,5 +1,5 @@
 ghost use Rattle.mp_types.specs.Count.{HasRisen};
-ghost use Rattle.std.specs.Prelude.{◌≡◌, ℕ, ◌<◌, ◌≤◌, List, Option, length, IfOk, OnErr};
+ghost use Rattle.std.specs.Prelude.{ℕ, ◌<◌, ◌≤◌, List, Option, length, IfOk, OnErr};
 ghost use Rattle.mp_io.specs.Bytes.{Writes};
 
 use crate::source::Failed;

@@ -1,5 +1,5 @@
 ghost use Rattle.mp_types.specs.Count.{HasRisen};
-ghost use Rattle.std.specs.Prelude.{◌≡◌, ℕ, ◌≤◌, List, Option, length, IfOk, OnErr};
+ghost use Rattle.std.specs.Prelude.{ℕ, ◌≤◌, List, Option, length, IfOk, OnErr};
 ghost use Rattle.mp_io.specs.Bytes.{Reads};
 
 /// A read or a write failed. The object that failed has counted it.

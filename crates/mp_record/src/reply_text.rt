@@ -1,4 +1,4 @@
-ghost use Rattle.std.specs.Prelude.{◌≡◌, ◌++◌, codes, decimal, OnOk};
+ghost use Rattle.std.specs.Prelude.{◌≡◌, ◌++◌, OnOk};
 ghost use Rattle.mount_model.specs.RecordText.{errno_text};
 ghost use Rattle.mp_record.specs.ItemText.{data_in, said_start, reply_start};
 

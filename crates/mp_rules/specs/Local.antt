@@ -24,21 +24,21 @@ abbrev pub no_names : LocalNames
 no_names = record { dirs = set.empty; files = map.empty }
 
 abbrev pub with_dir : List ℕ → LocalNames → LocalNames
-with_dir key names = record { dirs = set.insert names.dirs key; files = names.files }
+with_dir key names = record names { dirs = set.insert names.dirs key }
 
 -- a file has this size from now on
 abbrev pub with_file : List ℕ → ℕ → LocalNames → LocalNames
-with_file key size names = record { dirs = names.dirs; files = map.insert names.files key size }
+with_file key size names = record names { files = map.insert names.files key size }
 
 abbrev pub without_name : List ℕ → LocalNames → LocalNames
 without_name key names = record { dirs = set.remove names.dirs key; files = map.remove names.files key }
 
 abbrev pub without_file : List ℕ → LocalNames → LocalNames
-without_file key names = record { dirs = names.dirs; files = map.remove names.files key }
+without_file key names = record names { files = map.remove names.files key }
 
 -- the directory names above a key go
 abbrev pub without_dirs_above : List ℕ → LocalNames → LocalNames
-without_dirs_above key names = record { dirs = set.retain names.dirs (λ dir. not (is_below key dir)); files = names.files }
+without_dirs_above key names = record names { dirs = set.retain names.dirs (λ dir. not (is_below key dir)) }
 
 -- some name stands below the key
 abbrev pub has_name_below : LocalNames → List ℕ → Bool

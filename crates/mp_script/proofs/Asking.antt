@@ -8,7 +8,7 @@ use Rattle.mount_model.specs.ScriptText.{is_word, change_of, asked_by_process, a
 use Rattle.mp_script.specs.declared.fault.Fault.{Fault}
 use Rattle.mp_script.specs.declared.fault.Fault.TheVariants as fault
 use Rattle.mp_script.specs.Reads.{Fails, asked}
-use Rattle.mp_script.specs.Words.{words_of}
+use Rattle.mount_model.specs.ScriptText.{words_of}
 use Rattle.mp_script.proofs.Pieces.{has_first}
 
 pub awaits_none : (text : List ℕ) → await_of (words_of text) ≡ Err cause.Words

@@ -7,7 +7,8 @@ use Rattle.std.proofs.lemmas.List.{take_rest, take-append-drop, length-take, get
 use Rattle.std.proofs.lemmas.List.Folds.{list_any_none}
 use Rattle.memchr.specs.Find.{OccursAt}
 use Rattle.mount_model.specs.ScriptText.{lines_of}
-use Rattle.mp_script.specs.Words.{has, parts_of, words_of, has_empty}
+use Rattle.mount_model.specs.ScriptText.{words_of}
+use Rattle.mp_script.specs.Words.{has, parts_of, has_empty}
 
 pub not_found : (separator : ℕ) (text : List ℕ) → ((k : ℕ) → 0 ≤ k → k < length text → eqb (get_or text k 0) separator ≡ true → ⊥) → has separator text ≡ false
 not_found separator text none = list_any_none (λ byte. eqb byte separator) text

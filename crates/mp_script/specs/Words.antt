@@ -4,7 +4,7 @@ use Rattle.std.specs.List.{list_any, slice_split}
 use Rattle.mount_model.specs.declared.fault.ScriptCause.{ScriptCause}
 use Rattle.mount_model.specs.declared.request.Request.{Request}
 use Rattle.mount_model.specs.declared.request.Request.TheVariants as request
-use Rattle.mount_model.specs.ScriptText.{is_number, number_of, await_of, put_of, delete_of, stat_of, list_of, open_of, read_of, write_of, handle_only, make_of, remove_of, unlink_of}
+use Rattle.mount_model.specs.ScriptText.{words_of, is_number, number_of, await_of, put_of, delete_of, open_of, read_of, write_of, handle_only, path_only}
 use Rattle.mp_script.specs.declared.request.Access.{Access}
 use Rattle.mp_script.specs.declared.request.Access.TheVariants as access
 use Rattle.mp_script.specs.declared.request.Verb.{Verb}
@@ -17,10 +17,6 @@ has separator text = list_any (λ byte. byte == separator) text
 -- the parts of a text stand between separators
 abbrev pub parts_of : ℕ → List ℕ → List (List ℕ)
 parts_of separator text = slice_split (λ byte. byte == separator) text
-
--- the words of a line stand between single spaces
-abbrev pub words_of : List ℕ → List (List ℕ)
-words_of text = parts_of 32 text
 
 abbrev pub has_empty : List ℕ → Bool
 has_empty line = list_any (λ word. length word == 0) (words_of line)
@@ -44,13 +40,13 @@ abbrev pub verb_request : Verb → List (List ℕ) → Result Request ScriptCaus
 verb_request Await words = await_of words
 verb_request Put words = put_of words
 verb_request Delete words = delete_of words
-verb_request Stat words = stat_of words
-verb_request verb.List words = list_of words
+verb_request Stat words = path_only request.Stat words
+verb_request verb.List words = path_only request.List words
 verb_request (Open how) words = open_of (opened how) words
 verb_request Read words = read_of words
 verb_request Write words = write_of words
 verb_request Sync words = handle_only request.Sync words
 verb_request Close words = handle_only request.Close words
-verb_request MakeDir words = make_of words
-verb_request RemoveDir words = remove_of words
-verb_request Unlink words = unlink_of words
+verb_request MakeDir words = path_only request.MakeDir words
+verb_request RemoveDir words = path_only request.RemoveDir words
+verb_request Unlink words = path_only request.Unlink words

@@ -11,7 +11,7 @@ mod script;
 mod word;
 
 pub use fault::ScriptError;
-pub use script::read_script;
+pub use script::{MAX_BYTES, read_script};
 
 #[cfg(test)]
 mod tests;

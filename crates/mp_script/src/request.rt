@@ -1,8 +1,8 @@
 ghost use Rattle.std.specs.Prelude.{◌≡◌, List, ℕ, [], Ok, Err, MatchResult};
 ghost use Rattle.mount_model.specs.ScriptText as script;
-ghost use Rattle.mount_model.specs.ScriptText.{change_of, asked_by_process, request_of, put_of, delete_of, path_words, stat_of, list_of, open_of, read_of, write_of, handle_only, make_of, remove_of, unlink_of, asked_of};
+ghost use Rattle.mount_model.specs.ScriptText.{words_of, change_of, asked_by_process, request_of, put_of, delete_of, open_of, read_of, write_of, handle_only, path_only, asked_of};
 ghost use Rattle.mp_script.specs.Reads.{Gives, asked};
-ghost use Rattle.mp_script.specs.Words.{words_of, opened, verb_request};
+ghost use Rattle.mp_script.specs.Words.{opened, verb_request};
 
 use crate::content::content;
 use crate::cut::{cut, has_empty_word, one_part, three_parts, two_parts};
@@ -134,47 +134,12 @@ fn delete(alloc: Global, text: &[u8]) -> Result<Request, Fault>
 
 // The path of a request that has no other words.
 fn only_path(alloc: Global, text: &[u8]) -> Result<Text, Fault>
-    ensures { Gives (λ path. path) result (path_words (words_of text.now)) }
+    ensures { (asks : List ℕ → Request) → Gives asks result (path_only asks (words_of text.now)) }
 {
     match one_part(text, b' ') {
         None => Err(Fault::Cause(ScriptCause::Words)),
         Some(word) => word::path(alloc, word),
     }
-}
-
-fn stat(alloc: Global, text: &[u8]) -> Result<Request, Fault>
-    ensures { Gives (λ r. r) result (stat_of (words_of text.now)) }
-{
-    let path = only_path(alloc, text)?;
-    Ok(Request::Stat { path })
-}
-
-fn list(alloc: Global, text: &[u8]) -> Result<Request, Fault>
-    ensures { Gives (λ r. r) result (list_of (words_of text.now)) }
-{
-    let path = only_path(alloc, text)?;
-    Ok(Request::List { path })
-}
-
-fn make_dir(alloc: Global, text: &[u8]) -> Result<Request, Fault>
-    ensures { Gives (λ r. r) result (make_of (words_of text.now)) }
-{
-    let path = only_path(alloc, text)?;
-    Ok(Request::MakeDir { path })
-}
-
-fn remove_dir(alloc: Global, text: &[u8]) -> Result<Request, Fault>
-    ensures { Gives (λ r. r) result (remove_of (words_of text.now)) }
-{
-    let path = only_path(alloc, text)?;
-    Ok(Request::RemoveDir { path })
-}
-
-fn unlink(alloc: Global, text: &[u8]) -> Result<Request, Fault>
-    ensures { Gives (λ r. r) result (unlink_of (words_of text.now)) }
-{
-    let path = only_path(alloc, text)?;
-    Ok(Request::Unlink { path })
 }
 
 fn open_file(alloc: Global, access: Access, text: &[u8]) -> Result<Request, Fault>
@@ -269,22 +234,30 @@ fn request(alloc: Global, verb: Verb, text: &[u8]) -> Result<Request, Fault>
         Verb::Await => Err(Fault::Cause(ScriptCause::Words)),
         Verb::Put => put(alloc, text),
         Verb::Delete => delete(alloc, text),
-        Verb::Stat => stat(alloc, text),
-        Verb::List => list(alloc, text),
+        Verb::Stat => Ok(Request::Stat {
+            path: only_path(alloc, text)?,
+        }),
+        Verb::List => Ok(Request::List {
+            path: only_path(alloc, text)?,
+        }),
         Verb::Open(access) => open_file(alloc, access, text),
         Verb::Read => Ok(read(text)?),
         Verb::Write => write(alloc, text),
-        Verb::Sync => {
-            let handle = only_handle(text)?;
-            Ok(Request::Sync { handle })
-        }
-        Verb::Close => {
-            let handle = only_handle(text)?;
-            Ok(Request::Close { handle })
-        }
-        Verb::MakeDir => make_dir(alloc, text),
-        Verb::RemoveDir => remove_dir(alloc, text),
-        Verb::Unlink => unlink(alloc, text),
+        Verb::Sync => Ok(Request::Sync {
+            handle: only_handle(text)?,
+        }),
+        Verb::Close => Ok(Request::Close {
+            handle: only_handle(text)?,
+        }),
+        Verb::MakeDir => Ok(Request::MakeDir {
+            path: only_path(alloc, text)?,
+        }),
+        Verb::RemoveDir => Ok(Request::RemoveDir {
+            path: only_path(alloc, text)?,
+        }),
+        Verb::Unlink => Ok(Request::Unlink {
+            path: only_path(alloc, text)?,
+        }),
     }
 }
 

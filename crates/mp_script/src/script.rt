@@ -10,6 +10,9 @@ use mount_model::{Line, Request, Script, What};
 use mp_types::Items;
 use std::alloc::Global;
 
+/// A script has at most this many bytes.
+pub const MAX_BYTES: usize = 67_108_864;
+
 // The first line, and the bytes behind its end.
 fn first_line(bytes: &[u8]) -> Parted<'_>
     requires { 0 < length bytes.now }
@@ -171,7 +174,7 @@ pub fn read_script(alloc: Global, bytes: &[u8]) -> Result<Script, ScriptError>
     ensures reads { ReadsScript bytes.now result }
     ensures rising { IfOk result (AreRising 0) }
 {
-    if bytes.len() > 67_108_864 {
+    if bytes.len() > MAX_BYTES {
         return Err(ScriptError::TooLong(What::Bytes));
     }
     if has_too_many_lines(bytes) {

@@ -1,5 +1,4 @@
-ghost use Rattle.std.specs.Prelude.{◌≡◌, ◌<◌, List, [], ◌∷◌, ◌++◌, length, if◌then◌else◌, is_ok, IfErr, IfOk};
-ghost use Rattle.std.specs.Prelude.{slice_index_or};
+ghost use Rattle.std.specs.Prelude.{◌≡◌, ◌<◌, List, [], ◌∷◌, ◌++◌, length, if◌then◌else◌, is_ok, IfErr};
 
 use std::alloc::{AllocError, AllocFailed, Global};
 use std::marker::Model;

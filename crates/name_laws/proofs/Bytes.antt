@@ -1,25 +1,20 @@
 -- While an upload is under way, neither what it asks for nor what it hears changes how many bytes were written.
-use Rattle.std.proofs.Common.{◌≡◌, ℕ, zero, suc, ◌+◌, ◌-◌, Bool, true, false, List, length, drop, if◌then◌else◌, Option, Some, None, refl, sym, ap, ◌∙◌, arith}
+use Rattle.std.proofs.Common.{◌≡◌, ℕ, zero, suc, ◌+◌, ◌-◌, Bool, true, false, length, drop, if◌then◌else◌, Option, Some, None, refl, sym, ap, ◌∙◌, arith}
 use Rattle.std.proofs.lemmas.List.{length-take, length-drop}
 use Rattle.mp_types.specs.declared.errno.Errno.{Errno}
-use Rattle.mp_types.specs.declared.errno.Errno.TheVariants.{Enomem}
 use Rattle.bucket_model.specs.declared.call.Call.{Call}
-use Rattle.bucket_model.specs.declared.call.Call.TheVariants as call
 use Rattle.bucket_model.specs.declared.answer.Brief.{Brief}
-use Rattle.bucket_model.specs.declared.answer.Brief.TheVariants as answer
-use Rattle.upload_rules.specs.declared.upload.UpState.{UpState}
-use Rattle.upload_rules.specs.declared.upload.UpState.TheVariants.{Open, Finished, Done, Failed}
-use Rattle.upload_rules.specs.declared.upload.Created.{Created}
 use Rattle.upload_rules.specs.declared.upload.UpAsk.{UpAsk}
 use Rattle.upload_rules.specs.declared.upload.UpAsk.TheVariants.{Create, Part, Complete, Abort}
-use Rattle.upload_rules.specs.Upload.{Upload, due, written, with_ask, with_back, fails_with, with_failure}
-use Rattle.upload_rules.proofs.Due.{upload, IsPartDue, due-is}
+use Rattle.upload_rules.specs.Upload.{Upload, due, written, with_ask, with_back, with_id, with_stored, fails_with, with_failure, given_up, with_due}
+use Rattle.upload_rules.proofs.Due.{IsPartDue, due-is}
 use Rattle.mount_model.specs.declared.handle.Waiter.{Waiter}
 use Rattle.mount_model.specs.declared.handle.Waiter.TheVariants as waiter
 use Rattle.mount_model.specs.Step.{Step}
-use Rattle.mount_model.specs.Conversation.{errno_of, ended}
-use Rattle.mount_model.specs.Writers.{with_due, ask_times, hears_answer, is_under_way, lacking, back_times}
+use Rattle.mount_model.specs.Conversation.{ended}
+use Rattle.mount_model.specs.Writers.{ask_times, hears_answer, is_under_way, lacking, back_times}
 use Rattle.mount_model.specs.State.{calls_in, gives_up, behind_asks, behind_drops, behind_step}
+use Rattle.run_laws.proofs.Changes.{fails-by, ended-by, lacking-by, backs-by, hears-by}
 use Rattle.run_laws.proofs.Conversation.{ends_as}
 
 -- where it is still under way, it was before, with as many bytes
@@ -64,28 +59,17 @@ goes-asks (suc calls) u =
     let next : Upload = with_due (due u) u in
     goes-then u next (ask_times calls next) (goes-due u (due u) refl) (goes-asks calls next)
 
-fails-goes : (errno : Errno) (part : ℕ) (state : UpState) (created : Created) (asked sent stored : ℕ) (rest : List ℕ) (pending : ℕ) (closing : Bool) → GoesOn (upload part state created asked sent stored rest pending closing) (fails_with errno (upload part state created asked sent stored rest pending closing))
-fails-goes errno part Open created asked sent stored rest pending closing = record { was = λ way. refl; same = λ way. absurd (cc) }
-fails-goes errno part Finished created asked sent stored rest pending closing = record { was = λ way. refl; same = λ way. absurd (cc) }
-fails-goes errno part Done created asked sent stored rest pending closing = goes-same (upload part Done created asked sent stored rest pending closing)
-fails-goes errno part (Failed first) created asked sent stored rest pending closing = goes-same (upload part (Failed first) created asked sent stored rest pending closing)
-
 goes-fails : (errno : Errno) (u : Upload) → GoesOn u (fails_with errno u)
-goes-fails errno u = fails-goes errno u.part u.state u.created u.asked u.sent u.stored u.rest u.pending u.closing
+goes-fails = fails-by GoesOn goes-same (λ errno u. record { was = λ way. absurd (cc); same = λ way. absurd (cc) })
 
 goes-failure : (errno : Errno) (u : Upload) → GoesOn u (with_failure errno u)
 goes-failure errno u = goes-then u (with_back u) (with_failure errno u) (goes-back u) (goes-fails errno (with_back u))
 
 goes-lacking : (u : Upload) (o : Option UpAsk) → GoesOn u (lacking o u)
-goes-lacking u None = goes-same u
-goes-lacking u (Some Create) = goes-fails Enomem u
-goes-lacking u (Some (Part number from to)) = goes-fails Enomem u
-goes-lacking u (Some (Complete parts)) = goes-fails Enomem u
-goes-lacking u (Some Abort) = goes-same u
+goes-lacking = lacking-by GoesOn goes-same goes-fails
 
 goes-drops : (drops : ℕ) (u : Upload) → GoesOn u (back_times drops u)
-goes-drops zero u = goes-same u
-goes-drops (suc drops) u = goes-then u (with_back u) (back_times drops (with_back u)) (goes-back u) (goes-drops drops (with_back u))
+goes-drops = backs-by GoesOn goes-same goes-then goes-back
 
 -- behind a turn of its writer
 pub goes-step : (step : Step) (u : Upload) → GoesOn u (behind_step step u)
@@ -103,29 +87,15 @@ goes-step step u =
 
 -- with the answer to one of its calls
 pub goes-hears : (called : Call) (said : Brief) (u : Upload) → GoesOn u (hears_answer called said u)
-goes-hears (call.Create key) (answer.Upload id) u = goes-alike u (hears_answer (call.Create key) (answer.Upload id) u) refl refl
-goes-hears (call.Create key) other u = goes-failure (errno_of other) u
-goes-hears (call.Part id number bytes) answer.Stored u = goes-alike u (hears_answer (call.Part id number bytes) answer.Stored u) refl refl
-goes-hears (call.Part id number bytes) other u = goes-failure (errno_of other) u
-goes-hears (call.Complete id parts) (answer.Made etag) u = record { was = λ way. absurd (cc); same = λ way. absurd (cc) }
-goes-hears (call.Complete id parts) other u = goes-failure (errno_of other) u
-goes-hears (call.Abort id) said u = goes-alike u (hears_answer (call.Abort id) said u) refl refl
-goes-hears (call.Head key) said u = goes-failure (errno_of said) u
-goes-hears (call.Probe key) said u = goes-failure (errno_of said) u
-goes-hears (call.List prefix after max) said u = goes-failure (errno_of said) u
-goes-hears (call.Get key etag from to) said u = goes-failure (errno_of said) u
-goes-hears (call.Delete key) said u = goes-failure (errno_of said) u
-goes-hears (call.Put key bytes) said u = goes-failure (errno_of said) u
+goes-hears = hears-by GoesOn goes-failure
+    (λ id u. goes-alike u (with_id id u) refl refl)
+    (λ u. goes-alike u (with_stored u) refl refl)
+    (λ u. record { was = λ way. absurd (cc); same = λ way. absurd (cc) })
+    (λ u. goes-alike u (given_up u) refl refl)
 
 -- no more bytes come
-ended-goes : (part : ℕ) (state : UpState) (created : Created) (asked sent stored : ℕ) (rest : List ℕ) (pending : ℕ) (closing : Bool) → GoesOn (upload part state created asked sent stored rest pending closing) (ended (upload part state created asked sent stored rest pending closing))
-ended-goes part Open created asked sent stored rest pending closing = record { was = λ way. refl; same = λ way. refl }
-ended-goes part Finished created asked sent stored rest pending closing = goes-same (upload part Finished created asked sent stored rest pending closing)
-ended-goes part Done created asked sent stored rest pending closing = goes-same (upload part Done created asked sent stored rest pending closing)
-ended-goes part (Failed errno) created asked sent stored rest pending closing = goes-same (upload part (Failed errno) created asked sent stored rest pending closing)
-
 goes-ended : (u : Upload) → GoesOn u (ended u)
-goes-ended u = ended-goes u.part u.state u.created u.asked u.sent u.stored u.rest u.pending u.closing
+goes-ended = ended-by GoesOn (λ u closed. goes-same u) (λ u opened. record { was = λ way. ap is_under_way opened; same = λ way. refl })
 
 pub goes-ends : (who : Waiter) (u : Upload) → GoesOn u (ends_as who u)
 goes-ends (waiter.Close line) u = goes-then u (ended u) (ends_as (waiter.Close line) u) (goes-ended u) (goes-alike (ended u) (ends_as (waiter.Close line) u) refl refl)

@@ -1,8 +1,8 @@
 -- What a line makes and what it removes, by what stands at the path's own key.
-use Rattle.std.proofs.Common.{◌≡◌, ℕ, ◌+◌, ◌*◌, Bool, true, false, not, nat_lt, List, [], ◌∷◌, ◌++◌, length, ◌||◌, ◌==◌, if◌then◌else◌, Option, Some, None, Result, Ok, Err, refl, subst, append_assoc}
+use Rattle.std.proofs.Common.{◌≡◌, ℕ, Bool, true, false, not, nat_lt, List, [], ◌∷◌, ◌++◌, length, ◌||◌, ◌==◌, if◌then◌else◌, Option, Some, None, Result, Ok, Err, refl, subst, append_assoc}
 use Rattle.std.specs.FinSet as set
 use Rattle.std.specs.FinMap as map
-use Rattle.mp_types.specs.declared.errno.Errno.TheVariants.{Eperm, Eexist, Eisdir, Einval, Emfile, Enotempty, Efbig, Eoverflow}
+use Rattle.mp_types.specs.declared.errno.Errno.TheVariants.{Eperm, Eexist, Eisdir, Emfile, Enotempty, Eoverflow}
 use Rattle.mp_types.specs.declared.path.PathFault.{PathFault}
 use Rattle.mp_types.specs.Path.{path_of, joined, slash}
 use Rattle.mp_types.specs.Content.{bytes_of}
@@ -23,10 +23,6 @@ use Rattle.bucket_model.specs.declared.page.Page.{Page}
 use Rattle.bucket_model.specs.declared.answer.Brief.{Brief}
 use Rattle.bucket_model.specs.declared.answer.Brief.TheVariants as answer
 use Rattle.bucket_model.specs.declared.answer.Brief.TheVariants.{Missing, Bytes, Changed, Gone, Made}
-use Rattle.bucket_model.specs.Answers.{max_parts}
-use Rattle.upload_rules.specs.declared.upload.UpState.{UpState}
-use Rattle.upload_rules.specs.declared.upload.UpState.TheVariants as state
-use Rattle.upload_rules.specs.Upload.{written, with_bytes, with_state}
 use Rattle.mount_model.specs.declared.handle.Handle.TheVariants.{Reading, Writing}
 use Rattle.mount_model.specs.declared.handle.Version.{Version}
 use Rattle.mount_model.specs.declared.request.Request.{Request}
@@ -34,7 +30,9 @@ use Rattle.mount_model.specs.declared.request.Request.TheVariants as request
 use Rattle.mount_model.specs.declared.request.Reply.TheVariants as reply
 use Rattle.mount_model.specs.declared.standing.Heard.{Heard}
 use Rattle.mount_model.specs.Handles.{Handle, Writer}
-use Rattle.mount_model.specs.Conversation.{Next, Makes, Removes, Creates, Opens, Lists, Replies, Writes, View, Range, fails, next_of, put_next, delete_next, at_path, along, stat_at, stat_next, opens_if, open_at, create_at, open_next, make_at, make_next, remove_at, remove_next, unlink_at, unlink_next, max_pages, pages_in, last_of, asks_page, behind_page, behind_answer, list_at, list_next, range_next, range_in, read_next, with_upload, write_at, write_to, write_next, sync_next, close_next}
+use Rattle.upload_rules.specs.declared.upload.UpFault.{UpFault}
+use Rattle.upload_rules.specs.Refusal.{refusal}
+use Rattle.mount_model.specs.Conversation.{Next, Makes, Removes, Creates, Opens, Lists, Replies, View, Range, fails, next_of, put_next, delete_next, at_path, along, stat_at, stat_next, opens_if, open_at, create_at, open_next, make_at, make_next, remove_at, remove_next, unlink_at, unlink_next, max_pages, pages_in, last_of, asks_page, behind_page, behind_answer, list_at, list_next, range_next, range_in, read_next, written_or, write_next, sync_next, close_next}
 use Rattle.name_laws.specs.Files.{IsNoName, IsEmptyDir}
 
 -- what the walk finds stands at the path's own key
@@ -249,23 +247,14 @@ read-stands names None offset count answers = tt
 read-stands names (Some (Reading line version)) offset count answers = range-stands names version (range_in offset count version.size) answers
 read-stands names (Some (Writing w)) offset count answers = tt
 
-write-at : (names : LocalNames) (w : Writer) (offset : ℕ) (bytes : List ℕ) → MayStand names (write_at w offset bytes)
-write-at names w offset bytes = go (offset == written w.upload) (nat_lt (w.upload.part * max_parts) (offset + length bytes))
-  where
-    go : (at over : Bool) → MayStand names (if not at then fails Einval else (if over then fails Efbig else Writes (length bytes) (with_upload (with_bytes bytes w.upload) w)))
-    go false over = tt
-    go true true = tt
-    go true false = tt
+write-or : (names : LocalNames) (w : Writer) (bytes : List ℕ) (o : Option UpFault) → MayStand names (written_or w bytes o)
+write-or names w bytes None = tt
+write-or names w bytes (Some why) = tt
 
 write-stands : (names : LocalNames) (handle : Option Handle) (offset : ℕ) (bytes : List ℕ) → MayStand names (write_next handle offset bytes)
 write-stands names None offset bytes = tt
 write-stands names (Some (Reading line version)) offset bytes = tt
-write-stands names (Some (Writing w)) offset bytes = go w.upload.state
-  where
-    go : (up : UpState) → MayStand names (write_to (with_upload (with_state up w.upload) w) offset bytes)
-    go state.Open = write-at names (with_upload (with_state state.Open w.upload) w) offset bytes
-    go (state.Failed errno) = tt
-    go other = tt
+write-stands names (Some (Writing w)) offset bytes = write-or names w bytes (refusal w.upload offset (length bytes))
 
 sync-stands : (names : LocalNames) (line : ℕ) (handle : Option Handle) → MayStand names (sync_next line handle)
 sync-stands names line None = tt

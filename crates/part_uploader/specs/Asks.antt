@@ -4,7 +4,6 @@ use Rattle.upload_rules.specs.declared.upload.Created.{Created}
 use Rattle.upload_rules.specs.declared.upload.Created.TheVariants.{Known}
 use Rattle.upload_rules.specs.declared.upload.UpAsk.{UpAsk}
 use Rattle.upload_rules.specs.declared.upload.UpAsk.TheVariants.{Part}
-use Rattle.upload_rules.specs.Upload.{Upload, due, with_ask}
 
 -- a part is due
 abbrev pub is_part : Option UpAsk → Bool
@@ -16,11 +15,3 @@ is_part None = false
 abbrev pub known_id : Created → Option ℕ
 known_id (Known upload) = Some upload
 known_id other = None
-
--- what is due is asked for
-abbrev pub with_due : Upload → Upload
-with_due u = by_ask (due u)
-  where
-    by_ask : Option UpAsk → Upload
-    by_ask (Some ask) = with_ask ask u
-    by_ask None = u

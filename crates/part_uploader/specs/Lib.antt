@@ -1,5 +1,4 @@
 pub mod Asks
 pub mod Buffered
-pub mod Refusal
 pub mod Sound
 pub mod Unasked

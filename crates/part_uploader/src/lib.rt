@@ -4,12 +4,11 @@
 #![tactic(auto)]
 
 mod buffers;
-mod fault;
 mod uploader;
 mod waiting;
 
-pub use fault::{MAX_PARTS, UpFault};
-pub use uploader::Uploader;
+pub use upload_rules::UpFault;
+pub use uploader::{MAX_PARTS, Uploader};
 
 #[cfg(test)]
 mod tests;

@@ -1,17 +1,19 @@
 ghost use Rattle.std.specs.Prelude.{◌≡◌, ◌≢◌, ◌==◌, ◌+◌, ◌-◌, ◌^◌, ◌<◌, ◌≤◌, ◌↔◌, Some, IsSome, IsTrue, length, drop, IfOk, OnOk, OnErr, IsErrOf};
 ghost use Rattle.mp_types.specs.declared.errno.Errno.TheVariants.{Enomem};
 ghost use Rattle.mp_types.specs.Content.{bytes_of};
-ghost use Rattle.upload_rules.specs.Upload.{new_upload, written, is_full, has_part, next_part, ask_part, due_open, due_finished, due_failed, due, with_ask, with_bytes, finished, with_closing, with_back, with_id, with_stored, completed, fails_with, with_failure, given_up};
-ghost use Rattle.part_uploader.specs.Asks.{is_part, known_id, with_due};
-ghost use Rattle.part_uploader.specs.Refusal.{refusal_open, refusal};
+ghost use Rattle.upload_rules.specs.Upload.{new_upload, written, is_full, has_part, next_part, ask_part, due_open, due_finished, due_failed, due, with_ask, with_bytes, finished, with_closing, with_back, with_id, with_stored, completed, fails_with, with_failure, given_up, with_due};
+ghost use Rattle.part_uploader.specs.Asks.{is_part, known_id};
+ghost use Rattle.upload_rules.specs.Refusal.{refusal_open, refusal};
 
-use crate::fault::{MAX_PARTS, UpFault};
 use crate::waiting::Waiting;
 use bytes::Bytes;
 use mp_types::{Data, Errno};
 use std::alloc::{AllocError, Global};
 use std::marker::Model;
-use upload_rules::{Created, UpAsk, UpState};
+use upload_rules::{Created, UpAsk, UpFault, UpState};
+
+/// How many parts an upload may have.
+pub const MAX_PARTS: u32 = 10_000;
 
 /// The state of one writer: bytes come in, and parts go out.
 #[derive(Drop)]
@@ -268,7 +270,7 @@ impl Uploader {
     /// What is due is asked for, and the bytes of a part are let go. Takes no memory.
     pub fn asked(&mut self)
         requires { IsSome (due self.old) }
-        ensures { self.new ≡ with_due self.old }
+        ensures { self.new ≡ with_due (due self.old) self.old }
     {
         match self.next_ask() {
             Some(UpAsk::Create) => {

@@ -7,13 +7,13 @@ use Rattle.bucket_model.specs.declared.call.Call.{Call}
 use Rattle.bucket_model.specs.Answers.{MayBeMade}
 use Rattle.upload_rules.specs.declared.upload.UpAsk.{UpAsk}
 use Rattle.upload_rules.specs.declared.upload.UpAsk.TheVariants.{Create, Part, Complete, Abort}
-use Rattle.upload_rules.specs.Upload.{Upload, due, with_ask}
+use Rattle.upload_rules.specs.Upload.{Upload, due, with_ask, with_due}
 use Rattle.upload_rules.proofs.Due.{due-is}
 use Rattle.mount_model.specs.declared.event.Owner.{Owner}
 use Rattle.mount_model.specs.declared.event.Owner.TheVariants as owner
 use Rattle.mount_model.specs.declared.event.AskedCall.{AskedCall}
 use Rattle.mount_model.specs.declared.event.AskedCall.TheVariants as asked
-use Rattle.mount_model.specs.Writers.{Asking, asking_for, with_due, with_asking, first_asks, ask_times}
+use Rattle.mount_model.specs.Writers.{Asking, asking_for, with_asking, first_asks, ask_times}
 use Rattle.mount_model.specs.State.{Job, Ready, is_abort as told_abort, calls_in, jobs_made, calls_of}
 use Rattle.mount_model.specs.Run.{numbered}
 use Rattle.run_laws.specs.Counts.{total, any_call, is_create, is_part, is_complete, is_abort, made_job, out_job, ready_job, calls_made, calls_out, calls_ready, if_of_writer, part_in, parts_made}

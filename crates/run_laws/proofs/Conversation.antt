@@ -1,9 +1,9 @@
 -- What each request may say next, by its kind: only an await waits for other lines, only a read gives bytes, each call
 -- may be made, a page is asked for only where a directory is listed, fewer calls are left with each answer to one, and
 -- what a handle is opened under, written to or ended by.
-use Rattle.std.proofs.Common.{◌≡◌, ◌≢◌, ℕ, ◌+◌, ◌*◌, ◌<◌, ◌≤◌, min, List, [], ◌∷◌, ◌++◌, length, Bool, true, false, not, ◌||◌, ◌==◌, nat_le, nat_lt, if◌then◌else◌, Option, Some, None, Result, Ok, Err, refl, sym, ap, ◌∙◌, subst, arith, length-append, eqb-true, ltb-true, ltb-false}
+use Rattle.std.proofs.Common.{◌≡◌, ◌≢◌, ℕ, ◌+◌, ◌*◌, ◌<◌, ◌≤◌, min, List, [], ◌∷◌, ◌++◌, length, Bool, true, false, not, ◌||◌, ◌==◌, nat_le, nat_lt, if◌then◌else◌, Option, Some, None, Result, Ok, Err, refl, sym, ap, ◌∙◌, subst, arith, length-append, ltb-true}
 use Rattle.std.proofs.lemmas.Bool.{eqb-false, leb-false}
-use Rattle.mp_types.specs.declared.errno.Errno.TheVariants.{Eperm, Einval, Eexist, Eisdir, Emfile, Efbig, Enotempty, Eoverflow}
+use Rattle.mp_types.specs.declared.errno.Errno.TheVariants.{Eperm, Eexist, Eisdir, Emfile, Enotempty, Eoverflow}
 use Rattle.mp_types.specs.declared.path.PathFault.{PathFault}
 use Rattle.mp_types.specs.Content.{bytes_of}
 use Rattle.mp_types.specs.declared.octets.Data.{Data}
@@ -28,7 +28,6 @@ use Rattle.bucket_model.specs.declared.page.Page.{Page}
 use Rattle.bucket_model.specs.declared.answer.Brief.{Brief}
 use Rattle.bucket_model.specs.declared.answer.Brief.TheVariants as answer
 use Rattle.bucket_model.specs.declared.answer.Brief.TheVariants.{Missing, Bytes, Changed, Gone, Made, Fault}
-use Rattle.upload_rules.specs.declared.upload.UpState.{UpState}
 use Rattle.upload_rules.specs.declared.upload.UpState.TheVariants as state
 use Rattle.upload_rules.specs.Upload.{Upload, written, with_bytes, with_closing}
 use Rattle.mount_model.specs.declared.request.Request.{Request}
@@ -43,7 +42,10 @@ use Rattle.mount_model.specs.declared.handle.Waiter.TheVariants as waiter
 use Rattle.mount_model.specs.declared.standing.Heard.{Heard}
 use Rattle.mount_model.specs.Heard.{nothing_heard, with_told, call_of, question_of, fact_of, told_from, told_by}
 use Rattle.mount_model.specs.Handles.{Handle, Writer, name_in}
-use Rattle.mount_model.specs.Conversation.{Next, Asks, Replies, Makes, Removes, Opens, Creates, Lists, Gives, Writes, Ends, Waits, View, Range, range_in, fails, put_next, delete_next, at_path, along, stat_at, stat_next, opens_if, open_at, create_at, open_next, make_at, make_next, remove_at, remove_next, unlink_at, unlink_next, max_pages, pages_in, last_of, asks_page, behind_page, behind_answer, list_at, list_next, range_next, read_next, with_upload, waited_for, write_at, write_to, write_next, ended, sync_next, close_next, next_of}
+use Rattle.upload_rules.specs.declared.upload.UpFault.{UpFault}
+use Rattle.upload_rules.specs.Refusal.{refusal}
+use Rattle.upload_rules.proofs.Taken.{Takes, taken}
+use Rattle.mount_model.specs.Conversation.{Next, Asks, Replies, Makes, Removes, Opens, Creates, Lists, Gives, Writes, Ends, Waits, View, Range, range_in, fails, put_next, delete_next, at_path, along, stat_at, stat_next, opens_if, open_at, create_at, open_next, make_at, make_next, remove_at, remove_next, unlink_at, unlink_next, max_pages, pages_in, last_of, asks_page, behind_page, behind_answer, list_at, list_next, range_next, read_next, with_upload, waited_for, written_or, write_to, write_next, ended, sync_next, close_next, next_of}
 use Rattle.run_laws.specs.Alive.{jobs_at_once}
 use Rattle.run_laws.specs.Work.{one_left, path_left, list_left, calls_left, writer_calls}
 use Rattle.run_laws.specs.Writers.{opens_file, awaits_writer, waiting_line}
@@ -339,30 +341,22 @@ read-speaks view name None offset count heard = tt
 read-speaks view name (Some (Reading line version)) offset count heard = range-speaks view name offset count version (range_in offset count version.size) heard.facts heard.answers (range_some offset count version.size)
 read-speaks view name (Some (Writing writer)) offset count heard = tt
 
--- a writer that takes bytes
-write-at-speaks : (view : View) (name offset : ℕ) (content : Data) (heard : Heard) (w : Writer) → view.handle ≡ Some (Writing w) → w.upload.state ≡ state.Open → SpeaksWith view (Write name offset content) (calls_left (Write name offset content)) heard (write_at w offset (bytes_of content))
-write-at-speaks view name offset content heard w live opened = go (offset == written w.upload) (nat_lt (w.upload.part * max_parts) (offset + length (bytes_of content))) refl refl
+-- a writer that takes bytes, or doesn't
+write-to-speaks : (view : View) (name offset : ℕ) (content : Data) (heard : Heard) (w : Writer) → view.handle ≡ Some (Writing w) → SpeaksWith view (Write name offset content) (calls_left (Write name offset content)) heard (write_to w offset (bytes_of content))
+write-to-speaks view name offset content heard w live = by (refusal w.upload offset (length (bytes_of content))) refl
   where
-    go : (at over : Bool) → (offset == written w.upload) ≡ at → nat_lt (w.upload.part * max_parts) (offset + length (bytes_of content)) ≡ over → SpeaksWith view (Write name offset content) (calls_left (Write name offset content)) heard (if not at then fails Einval else (if over then fails Efbig else Writes (length (bytes_of content)) (with_upload (with_bytes (bytes_of content) w.upload) w)))
-    go false over at_is over_is = tt
-    go true true at_is over_is = tt
-    go true false at_is over_is =
-        let place : offset ≡ written w.upload = eqb-true offset (written w.upload) at_is in
-        let fits = ltb-false (w.upload.part * max_parts) (offset + length (bytes_of content)) over_is in
-        record { name = name; names = refl; before = w; live = live; opened = opened; bytes = bytes_of content; now_is = refl; count_is = refl; fits = omega arith; calls = refl; one = refl; no_wait = refl }
-
-write-to-speaks : (view : View) (name offset : ℕ) (content : Data) (heard : Heard) (line : ℕ) (key : List ℕ) (u : Upload) (who : Waiter) → view.handle ≡ Some (Writing (record { line = line; key = key; upload = u; waiter = who })) → (up : UpState) → u.state ≡ up → SpeaksWith view (Write name offset content) (calls_left (Write name offset content)) heard (write_to (record { line = line; key = key; upload = record { part = u.part; state = up; created = u.created; asked = u.asked; sent = u.sent; stored = u.stored; rest = u.rest; pending = u.pending; closing = u.closing }; waiter = who }) offset (bytes_of content))
-write-to-speaks view name offset content heard line key u who live state.Open is =
-    let v : Upload = record { part = u.part; state = state.Open; created = u.created; asked = u.asked; sent = u.sent; stored = u.stored; rest = u.rest; pending = u.pending; closing = u.closing } in
-    let same : u ≡ v = ap (λ (s : UpState). record { part = u.part; state = s; created = u.created; asked = u.asked; sent = u.sent; stored = u.stored; rest = u.rest; pending = u.pending; closing = u.closing }) is in
-    write-at-speaks view name offset content heard (record { line = line; key = key; upload = v; waiter = who }) (live ∙ ap (λ (t : Upload). Some (Writing (record { line = line; key = key; upload = t; waiter = who }))) same) refl
-write-to-speaks view name offset content heard line key u who live (state.Failed errno) is = tt
-write-to-speaks view name offset content heard line key u who live other is = tt
+    by : (o : Option UpFault) → refusal w.upload offset (length (bytes_of content)) ≡ o → SpeaksWith view (Write name offset content) (calls_left (Write name offset content)) heard (written_or w (bytes_of content) o)
+    by (Some why) is = tt
+    by None is =
+        let takes : Takes w.upload offset (length (bytes_of content)) = taken w.upload offset (length (bytes_of content)) is in
+        let place = takes.place in
+        let fits = takes.fits in
+        record { name = name; names = refl; before = w; live = live; opened = takes.opened; bytes = bytes_of content; now_is = refl; count_is = refl; fits = omega arith; calls = refl; one = refl; no_wait = refl }
 
 write-speaks : (view : View) (name offset : ℕ) (content : Data) (heard : Heard) (handle : Option Handle) → view.handle ≡ handle → SpeaksWith view (Write name offset content) (calls_left (Write name offset content)) heard (write_next handle offset (bytes_of content))
 write-speaks view name offset content heard None live = tt
 write-speaks view name offset content heard (Some (Reading line version)) live = tt
-write-speaks view name offset content heard (Some (Writing w)) live = write-to-speaks view name offset content heard w.line w.key w.upload w.waiter live w.upload.state refl
+write-speaks view name offset content heard (Some (Writing w)) live = write-to-speaks view name offset content heard w live
 
 sync-speaks : (view : View) (name : ℕ) (heard : Heard) (handle : Option Handle) → view.handle ≡ handle → SpeaksWith view (Sync name) (calls_left (Sync name)) heard (sync_next view.line handle)
 sync-speaks view name heard None live = tt

@@ -3,6 +3,7 @@ pub mod Lines
 pub mod Settled
 pub mod Orderly
 pub mod Uploads
+pub mod Changes
 pub mod Places
 pub mod Jobs
 pub mod Dropped

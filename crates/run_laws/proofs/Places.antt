@@ -1,24 +1,20 @@
 -- What an upload asks for stays within its limit, and leaves fewer calls to ask for.
-use Rattle.std.proofs.Common.{◌≡◌, ◌≢◌, ℕ, zero, suc, ◌+◌, ◌-◌, ◌*◌, ◌≤◌, List, [], length, drop, Bool, true, false, ◌==◌, if◌then◌else◌, Option, Some, None, ◌⊎◌, inl, inr, refl, sym, ap, ◌∙◌, arith, ne_eqb}
+use Rattle.std.proofs.Common.{◌≡◌, ◌≢◌, ℕ, ◌+◌, ◌-◌, ◌*◌, ◌≤◌, List, [], length, drop, Bool, true, false, ◌==◌, if◌then◌else◌, Some, ◌⊎◌, inl, inr, refl, sym, ap, ◌∙◌, arith, ne_eqb}
 use Rattle.std.proofs.lemmas.List.{length-append, length-take, length-drop}
-use Rattle.std.proofs.Math.Nat.{mul-le-mul_left}
 use Rattle.mp_types.specs.declared.errno.Errno.{Errno}
-use Rattle.mp_types.specs.declared.errno.Errno.TheVariants.{Enomem}
 use Rattle.bucket_model.specs.declared.call.Call.{Call}
-use Rattle.bucket_model.specs.declared.call.Call.TheVariants as call
 use Rattle.bucket_model.specs.declared.answer.Brief.{Brief}
-use Rattle.bucket_model.specs.declared.answer.Brief.TheVariants as answer
 use Rattle.bucket_model.specs.Answers.{max_parts, MayBeMade}
-use Rattle.upload_rules.specs.declared.upload.UpState.{UpState}
-use Rattle.upload_rules.specs.declared.upload.UpState.TheVariants.{Open, Finished, Done, Failed}
-use Rattle.upload_rules.specs.declared.upload.Created.{Created}
+use Rattle.upload_rules.specs.declared.upload.UpState.TheVariants.{Open, Finished}
 use Rattle.upload_rules.specs.declared.upload.UpAsk.{UpAsk}
 use Rattle.upload_rules.specs.declared.upload.UpAsk.TheVariants.{Create, Part, Complete, Abort}
 use Rattle.upload_rules.specs.Upload.{Upload, new_upload, due, with_ask, with_bytes, with_back, with_closing, fails_with, with_failure}
-use Rattle.upload_rules.proofs.Due.{upload, IsPartDue, due-is}
-use Rattle.mount_model.specs.Conversation.{errno_of, ended}
-use Rattle.mount_model.specs.Writers.{asking_for, hears_answer, lacking, settled, back_times}
+use Rattle.upload_rules.proofs.Due.{IsPartDue, due-is}
+use Rattle.upload_rules.proofs.Place.{few}
+use Rattle.mount_model.specs.Conversation.{ended}
+use Rattle.mount_model.specs.Writers.{asking_for, hears_answer, settled, back_times}
 use Rattle.run_laws.specs.Uploads.{IsUpload, Tally, IsTallied, calls_left_of}
+use Rattle.run_laws.proofs.Changes.{fails-by, ended-by, lacking-by, backs-by, hears-by}
 use Rattle.run_laws.proofs.Uploads.{Adds, tallied-once, ask-tallied, back-is}
 
 -- what stays
@@ -40,67 +36,32 @@ stays-ask u (Part number from to) = record { closing = refl; not_open = λ e. e 
 stays-ask u (Complete parts) = record { closing = refl; not_open = λ e. e }
 stays-ask u Abort = record { closing = refl; not_open = λ e. e }
 
-fails-stays : (errno : Errno) (part : ℕ) (state : UpState) (created : Created) (asked sent stored : ℕ) (rest : List ℕ) (pending : ℕ) (closing : Bool) → Stays (upload part state created asked sent stored rest pending closing) (fails_with errno (upload part state created asked sent stored rest pending closing))
-fails-stays errno part Open created asked sent stored rest pending closing = record { closing = refl; not_open = λ e. absurd (e refl) }
-fails-stays errno part Finished created asked sent stored rest pending closing = record { closing = refl; not_open = λ e is. absurd (cc) }
-fails-stays errno part Done created asked sent stored rest pending closing = record { closing = refl; not_open = λ e. e }
-fails-stays errno part (Failed first) created asked sent stored rest pending closing = record { closing = refl; not_open = λ e. e }
-
 stays-fails : (errno : Errno) (u : Upload) → Stays u (fails_with errno u)
-stays-fails errno u = fails-stays errno u.part u.state u.created u.asked u.sent u.stored u.rest u.pending u.closing
+stays-fails = fails-by Stays stays-same (λ errno u. record { closing = refl; not_open = λ e is. absurd (cc) })
 
 stays-failure : (errno : Errno) (u : Upload) → Stays u (with_failure errno u)
 stays-failure errno u = stays-then u (with_back u) (with_failure errno u) (record { closing = refl; not_open = λ e. e }) (stays-fails errno (with_back u))
 
-stays-lacking : (u : Upload) (o : Option UpAsk) → Stays u (lacking o u)
-stays-lacking u None = stays-same u
-stays-lacking u (Some Create) = stays-fails Enomem u
-stays-lacking u (Some (Part number from to)) = stays-fails Enomem u
-stays-lacking u (Some (Complete parts)) = stays-fails Enomem u
-stays-lacking u (Some Abort) = stays-same u
-
 pub stays-settled : (u : Upload) → Stays u (settled u)
-stays-settled u = stays-lacking u (due u)
+stays-settled u = lacking-by Stays stays-same stays-fails u (due u)
 
 pub stays-back : (drops : ℕ) (u : Upload) → Stays u (back_times drops u)
-stays-back zero u = stays-same u
-stays-back (suc drops) u = stays-then u (with_back u) (back_times drops (with_back u)) (record { closing = refl; not_open = λ e. e }) (stays-back drops (with_back u))
+stays-back = backs-by Stays stays-same stays-then (λ u. record { closing = refl; not_open = λ e. e })
 
 pub stays-hears : (called : Call) (said : Brief) (u : Upload) → Stays u (hears_answer called said u)
-stays-hears (call.Create key) (answer.Upload id) u = record { closing = refl; not_open = λ e. e }
-stays-hears (call.Create key) other u = stays-failure (errno_of other) u
-stays-hears (call.Part id number bytes) answer.Stored u = record { closing = refl; not_open = λ e. e }
-stays-hears (call.Part id number bytes) other u = stays-failure (errno_of other) u
-stays-hears (call.Complete id parts) (answer.Made etag) u = record { closing = refl; not_open = λ e is. absurd (cc) }
-stays-hears (call.Complete id parts) other u = stays-failure (errno_of other) u
-stays-hears (call.Abort id) said u = record { closing = refl; not_open = λ e. e }
-stays-hears (call.Head key) said u = stays-failure (errno_of said) u
-stays-hears (call.Probe key) said u = stays-failure (errno_of said) u
-stays-hears (call.List prefix after max) said u = stays-failure (errno_of said) u
-stays-hears (call.Get key etag from to) said u = stays-failure (errno_of said) u
-stays-hears (call.Delete key) said u = stays-failure (errno_of said) u
-stays-hears (call.Put key bytes) said u = stays-failure (errno_of said) u
+stays-hears = hears-by Stays stays-failure
+    (λ id u. record { closing = refl; not_open = λ e. e })
+    (λ u. record { closing = refl; not_open = λ e. e })
+    (λ u. record { closing = refl; not_open = λ e is. absurd (cc) })
+    (λ u. record { closing = refl; not_open = λ e. e })
 
 -- how many calls aren't back
 
-fails-pending : (errno : Errno) (part : ℕ) (state : UpState) (created : Created) (asked sent stored : ℕ) (rest : List ℕ) (pending : ℕ) (closing : Bool) → (fails_with errno (upload part state created asked sent stored rest pending closing)).pending ≡ pending
-fails-pending errno part Open created asked sent stored rest pending closing = refl
-fails-pending errno part Finished created asked sent stored rest pending closing = refl
-fails-pending errno part Done created asked sent stored rest pending closing = refl
-fails-pending errno part (Failed first) created asked sent stored rest pending closing = refl
-
 pending-fails : (errno : Errno) (u : Upload) → (fails_with errno u).pending ≡ u.pending
-pending-fails errno u = fails-pending errno u.part u.state u.created u.asked u.sent u.stored u.rest u.pending u.closing
-
-pending-lacking : (u : Upload) (o : Option UpAsk) → (lacking o u).pending ≡ u.pending
-pending-lacking u None = refl
-pending-lacking u (Some Create) = pending-fails Enomem u
-pending-lacking u (Some (Part number from to)) = pending-fails Enomem u
-pending-lacking u (Some (Complete parts)) = pending-fails Enomem u
-pending-lacking u (Some Abort) = refl
+pending-fails = fails-by (λ u now. now.pending ≡ u.pending) (λ u. refl) (λ errno u. refl)
 
 pub pending-settled : (u : Upload) → (settled u).pending ≡ u.pending
-pending-settled u = pending-lacking u (due u)
+pending-settled u = lacking-by (λ u now. now.pending ≡ u.pending) (λ u. refl) pending-fails u (due u)
 
 pub pending-back : (drops : ℕ) (u : Upload) → (back_times drops u).pending ≡ u.pending - drops
 pending-back drops u = ap (λ (v : Upload). v.pending) (back-is drops u.part u.state u.created u.asked u.sent u.stored u.rest u.pending u.closing)
@@ -112,19 +73,7 @@ pending-ask (Complete parts) u = refl
 pending-ask Abort u = refl
 
 pub pending-hears : (called : Call) (said : Brief) (u : Upload) → (hears_answer called said u).pending ≡ u.pending - 1
-pending-hears (call.Create key) (answer.Upload id) u = refl
-pending-hears (call.Create key) other u = pending-fails (errno_of other) (with_back u)
-pending-hears (call.Part id number bytes) answer.Stored u = refl
-pending-hears (call.Part id number bytes) other u = pending-fails (errno_of other) (with_back u)
-pending-hears (call.Complete id parts) (answer.Made etag) u = refl
-pending-hears (call.Complete id parts) other u = pending-fails (errno_of other) (with_back u)
-pending-hears (call.Abort id) said u = refl
-pending-hears (call.Head key) said u = pending-fails (errno_of said) (with_back u)
-pending-hears (call.Probe key) said u = pending-fails (errno_of said) (with_back u)
-pending-hears (call.List prefix after max) said u = pending-fails (errno_of said) (with_back u)
-pending-hears (call.Get key etag from to) said u = pending-fails (errno_of said) (with_back u)
-pending-hears (call.Delete key) said u = pending-fails (errno_of said) (with_back u)
-pending-hears (call.Put key bytes) said u = pending-fails (errno_of said) (with_back u)
+pending-hears = hears-by (λ u now. now.pending ≡ u.pending - 1) (λ errno u. pending-fails errno (with_back u)) (λ id u. refl) (λ u. refl) (λ u. refl) (λ u. refl)
 
 -- the limit
 
@@ -134,58 +83,30 @@ new-upload part some = record { part_low = some; fits = omega arith; place = λ 
 pub upload-bytes : (u : Upload) (bytes : List ℕ) → u.state ≡ Open → u.sent + length u.rest + length bytes ≤ u.part * max_parts → IsUpload u → IsUpload (with_bytes bytes u)
 upload-bytes u bytes opened fits h = record { part_low = h.part_low; fits = let sum = length-append u.rest bytes in omega arith; place = λ grows. h.place (inl opened) }
 
-ended-at : (part : ℕ) (state : UpState) (created : Created) (asked sent stored : ℕ) (rest : List ℕ) (pending : ℕ) (closing : Bool) → IsUpload (upload part state created asked sent stored rest pending closing) → IsUpload (ended (upload part state created asked sent stored rest pending closing))
-ended-at part Open created asked sent stored rest pending closing h = record { part_low = h.part_low; fits = h.fits; place = λ grows. h.place (inl refl) }
-ended-at part Finished created asked sent stored rest pending closing h = h
-ended-at part Done created asked sent stored rest pending closing h = h
-ended-at part (Failed first) created asked sent stored rest pending closing h = h
-
 pub upload-ended : (u : Upload) → IsUpload u → IsUpload (ended u)
-upload-ended u h = ended-at u.part u.state u.created u.asked u.sent u.stored u.rest u.pending u.closing h
+upload-ended = ended-by (λ u now. IsUpload u → IsUpload now) (λ u closed h. h) (λ u opened h. record { part_low = h.part_low; fits = h.fits; place = λ grows. h.place (inl opened) })
 
 pub upload-closing : (u : Upload) → IsUpload u → IsUpload (with_closing u)
 upload-closing u h = record { part_low = h.part_low; fits = h.fits; place = h.place }
 
-fails-at : (errno : Errno) (part : ℕ) (state : UpState) (created : Created) (asked sent stored : ℕ) (rest : List ℕ) (pending : ℕ) (closing : Bool) → IsUpload (upload part state created asked sent stored rest pending closing) → IsUpload (fails_with errno (upload part state created asked sent stored rest pending closing))
-fails-at errno part Open created asked sent stored rest pending closing h = record { part_low = h.part_low; fits = let fits = h.fits in omega arith; place = λ grows. elim grows [ inl opened ↦ absurd (cc) | inr some ↦ absurd (omega arith) ] }
-fails-at errno part Finished created asked sent stored rest pending closing h = record { part_low = h.part_low; fits = let fits = h.fits in omega arith; place = λ grows. elim grows [ inl opened ↦ absurd (cc) | inr some ↦ absurd (omega arith) ] }
-fails-at errno part Done created asked sent stored rest pending closing h = h
-fails-at errno part (Failed first) created asked sent stored rest pending closing h = h
-
 upload-fails : (errno : Errno) (u : Upload) → IsUpload u → IsUpload (fails_with errno u)
-upload-fails errno u h = fails-at errno u.part u.state u.created u.asked u.sent u.stored u.rest u.pending u.closing h
+upload-fails = fails-by (λ u now. IsUpload u → IsUpload now) (λ u h. h) (λ errno u h. record { part_low = h.part_low; fits = let fits = h.fits in omega arith; place = λ grows. elim grows [ inl opened ↦ absurd (cc) | inr some ↦ absurd (omega arith) ] })
 
 upload-failure : (errno : Errno) (u : Upload) → IsUpload u → IsUpload (with_failure errno u)
 upload-failure errno u h = upload-fails errno (with_back u) (record { part_low = h.part_low; fits = h.fits; place = h.place })
 
-upload-lacking : (u : Upload) (o : Option UpAsk) → IsUpload u → IsUpload (lacking o u)
-upload-lacking u None h = h
-upload-lacking u (Some Create) h = upload-fails Enomem u h
-upload-lacking u (Some (Part number from to)) h = upload-fails Enomem u h
-upload-lacking u (Some (Complete parts)) h = upload-fails Enomem u h
-upload-lacking u (Some Abort) h = h
-
 pub upload-settled : (u : Upload) → IsUpload u → IsUpload (settled u)
-upload-settled u h = upload-lacking u (due u) h
+upload-settled u = lacking-by (λ u now. IsUpload u → IsUpload now) (λ u h. h) upload-fails u (due u)
 
 pub upload-back : (drops : ℕ) (u : Upload) → IsUpload u → IsUpload (back_times drops u)
-upload-back zero u h = h
-upload-back (suc drops) u h = upload-back drops (with_back u) (record { part_low = h.part_low; fits = h.fits; place = h.place })
+upload-back = backs-by (λ u now. IsUpload u → IsUpload now) (λ u h. h) (λ u v w first second h. second (first h)) (λ u h. record { part_low = h.part_low; fits = h.fits; place = h.place })
 
 pub upload-hears : (called : Call) (said : Brief) (u : Upload) → IsUpload u → IsUpload (hears_answer called said u)
-upload-hears (call.Create key) (answer.Upload id) u h = record { part_low = h.part_low; fits = h.fits; place = h.place }
-upload-hears (call.Create key) other u h = upload-failure (errno_of other) u h
-upload-hears (call.Part id number bytes) answer.Stored u h = record { part_low = h.part_low; fits = h.fits; place = h.place }
-upload-hears (call.Part id number bytes) other u h = upload-failure (errno_of other) u h
-upload-hears (call.Complete id parts) (answer.Made etag) u h = record { part_low = h.part_low; fits = h.fits; place = λ grows. elim grows [ inl opened ↦ absurd (cc) | inr some ↦ h.place (inr some) ] }
-upload-hears (call.Complete id parts) other u h = upload-failure (errno_of other) u h
-upload-hears (call.Abort id) said u h = record { part_low = h.part_low; fits = h.fits; place = h.place }
-upload-hears (call.Head key) said u h = upload-failure (errno_of said) u h
-upload-hears (call.Probe key) said u h = upload-failure (errno_of said) u h
-upload-hears (call.List prefix after max) said u h = upload-failure (errno_of said) u h
-upload-hears (call.Get key etag from to) said u h = upload-failure (errno_of said) u h
-upload-hears (call.Delete key) said u h = upload-failure (errno_of said) u h
-upload-hears (call.Put key bytes) said u h = upload-failure (errno_of said) u h
+upload-hears = hears-by (λ u now. IsUpload u → IsUpload now) upload-failure
+    (λ id u h. record { part_low = h.part_low; fits = h.fits; place = h.place })
+    (λ u h. record { part_low = h.part_low; fits = h.fits; place = h.place })
+    (λ u h. record { part_low = h.part_low; fits = h.fits; place = λ grows. elim grows [ inl opened ↦ absurd (cc) | inr some ↦ h.place (inr some) ] })
+    (λ u h. record { part_low = h.part_low; fits = h.fits; place = h.place })
 
 -- where a part is asked for and more may come behind it, it is full
 full-part : (u : Upload) (number from to : ℕ) → IsPartDue u number from to → (u.state ≡ Open) ⊎ (1 ≤ length (drop (to - from) u.rest)) → u.part ≤ length u.rest
@@ -227,19 +148,10 @@ upload-ask u Abort is h = record { part_low = h.part_low; fits = h.fits; place =
 
 -- so that each call may be made
 
-few : (part asked rest sum : ℕ) → 1 ≤ rest → asked * part + rest ≤ sum → sum ≤ part * max_parts → asked + 1 ≤ max_parts
-few part asked rest sum some fits limit = elim (or_more asked max_parts) [
-  | inl less ↦ less
-  | inr more ↦ absurd (let most = mul-le-mul_left part more in omega arith)
-]
-  where
-    or_more : (m n : ℕ) → (m + 1 ≤ n) ⊎ (n ≤ m)
-    or_more m n = grind arith
-
 part-few : (u : Upload) (number from to : ℕ) → IsPartDue u number from to → IsUpload u → u.asked + 1 ≤ max_parts
 part-few u number from to d h =
     let some = h.part_low in
-    let by_rest : 1 ≤ length u.rest → u.asked + 1 ≤ max_parts = λ left. few u.part u.asked (length u.rest) (u.sent + length u.rest) left (let before = h.place (inr left) in omega arith) h.fits in
+    let by_rest : 1 ≤ length u.rest → u.asked + 1 ≤ max_parts = λ left. few u.part max_parts u.asked (length u.rest) (u.sent + length u.rest) left (let before = h.place (inr left) in omega arith) h.fits in
     elim d.full_or_last [
       | inl full ↦ by_rest (omega arith)
       | inr last ↦ elim last.1 [
@@ -305,53 +217,29 @@ pub record Shrinks (u now : Upload) : Type 0 where
   pub rest : length now.rest ≤ length u.rest
   pub asked : now.asked ≡ u.asked
 
-fails-shrinks : (errno : Errno) (part : ℕ) (state : UpState) (created : Created) (asked sent stored : ℕ) (rest : List ℕ) (pending : ℕ) (closing : Bool) → Shrinks (upload part state created asked sent stored rest pending closing) (fails_with errno (upload part state created asked sent stored rest pending closing))
-fails-shrinks errno part Open created asked sent stored rest pending closing = record { rest = omega arith; asked = refl }
-fails-shrinks errno part Finished created asked sent stored rest pending closing = record { rest = omega arith; asked = refl }
-fails-shrinks errno part Done created asked sent stored rest pending closing = record { rest = omega arith; asked = refl }
-fails-shrinks errno part (Failed first) created asked sent stored rest pending closing = record { rest = omega arith; asked = refl }
+shrinks-same : (u : Upload) → Shrinks u u
+shrinks-same u = record { rest = omega arith; asked = refl }
+
+shrinks-then : (u mid now : Upload) → Shrinks u mid → Shrinks mid now → Shrinks u now
+shrinks-then u mid now first second = record { rest = let less = first.rest in let fewer = second.rest in omega arith; asked = second.asked ∙ first.asked }
 
 shrinks-fails : (errno : Errno) (u : Upload) → Shrinks u (fails_with errno u)
-shrinks-fails errno u = fails-shrinks errno u.part u.state u.created u.asked u.sent u.stored u.rest u.pending u.closing
+shrinks-fails = fails-by Shrinks shrinks-same (λ errno u. record { rest = omega arith; asked = refl })
 
 shrinks-failure : (errno : Errno) (u : Upload) → Shrinks u (with_failure errno u)
 shrinks-failure errno u = let fails = shrinks-fails errno (with_back u) in record { rest = fails.rest; asked = fails.asked }
 
-shrinks-lacking : (u : Upload) (o : Option UpAsk) → Shrinks u (lacking o u)
-shrinks-lacking u None = record { rest = omega arith; asked = refl }
-shrinks-lacking u (Some Create) = shrinks-fails Enomem u
-shrinks-lacking u (Some (Part number from to)) = shrinks-fails Enomem u
-shrinks-lacking u (Some (Complete parts)) = shrinks-fails Enomem u
-shrinks-lacking u (Some Abort) = record { rest = omega arith; asked = refl }
-
 pub shrinks-settled : (u : Upload) → Shrinks u (settled u)
-shrinks-settled u = shrinks-lacking u (due u)
+shrinks-settled u = lacking-by Shrinks shrinks-same shrinks-fails u (due u)
 
 pub shrinks-back : (drops : ℕ) (u : Upload) → Shrinks u (back_times drops u)
-shrinks-back zero u = record { rest = omega arith; asked = refl }
-shrinks-back (suc drops) u = let more = shrinks-back drops (with_back u) in record { rest = more.rest; asked = more.asked }
+shrinks-back = backs-by Shrinks shrinks-same shrinks-then (λ u. record { rest = omega arith; asked = refl })
 
 pub shrinks-hears : (called : Call) (said : Brief) (u : Upload) → Shrinks u (hears_answer called said u)
-shrinks-hears (call.Create key) (answer.Upload id) u = record { rest = omega arith; asked = refl }
-shrinks-hears (call.Create key) other u = shrinks-failure (errno_of other) u
-shrinks-hears (call.Part id number bytes) answer.Stored u = record { rest = omega arith; asked = refl }
-shrinks-hears (call.Part id number bytes) other u = shrinks-failure (errno_of other) u
-shrinks-hears (call.Complete id parts) (answer.Made etag) u = record { rest = omega arith; asked = refl }
-shrinks-hears (call.Complete id parts) other u = shrinks-failure (errno_of other) u
-shrinks-hears (call.Abort id) said u = record { rest = omega arith; asked = refl }
-shrinks-hears (call.Head key) said u = shrinks-failure (errno_of said) u
-shrinks-hears (call.Probe key) said u = shrinks-failure (errno_of said) u
-shrinks-hears (call.List prefix after max) said u = shrinks-failure (errno_of said) u
-shrinks-hears (call.Get key etag from to) said u = shrinks-failure (errno_of said) u
-shrinks-hears (call.Delete key) said u = shrinks-failure (errno_of said) u
-shrinks-hears (call.Put key bytes) said u = shrinks-failure (errno_of said) u
-
-ended-shrinks : (part : ℕ) (state : UpState) (created : Created) (asked sent stored : ℕ) (rest : List ℕ) (pending : ℕ) (closing : Bool) → Shrinks (upload part state created asked sent stored rest pending closing) (ended (upload part state created asked sent stored rest pending closing))
-ended-shrinks part Open created asked sent stored rest pending closing = record { rest = omega arith; asked = refl }
-ended-shrinks part other created asked sent stored rest pending closing = record { rest = omega arith; asked = refl }
+shrinks-hears = hears-by Shrinks shrinks-failure (λ id u. record { rest = omega arith; asked = refl }) (λ u. record { rest = omega arith; asked = refl }) (λ u. record { rest = omega arith; asked = refl }) (λ u. record { rest = omega arith; asked = refl })
 
 pub shrinks-ended : (u : Upload) → Shrinks u (ended u)
-shrinks-ended u = ended-shrinks u.part u.state u.created u.asked u.sent u.stored u.rest u.pending u.closing
+shrinks-ended = ended-by Shrinks (λ u closed. shrinks-same u) (λ u opened. record { rest = omega arith; asked = refl })
 
 pub shrinks-left : (u now : Upload) (t : Tally) → Shrinks u now → calls_left_of now t ≤ calls_left_of u t
 shrinks-left u now t s = let first : first_part now.asked ≡ first_part u.asked = ap first_part s.asked in let rest = s.rest in omega arith
@@ -362,11 +250,5 @@ pub record IsEnded (u now : Upload) : Type 0 where
   pub closing : now.closing ≡ u.closing
   pub pending : now.pending ≡ u.pending
 
-is-ended-at : (part : ℕ) (state : UpState) (created : Created) (asked sent stored : ℕ) (rest : List ℕ) (pending : ℕ) (closing : Bool) → IsEnded (upload part state created asked sent stored rest pending closing) (ended (upload part state created asked sent stored rest pending closing))
-is-ended-at part Open created asked sent stored rest pending closing = record { not_open = λ e. absurd (cc); closing = refl; pending = refl }
-is-ended-at part Finished created asked sent stored rest pending closing = record { not_open = λ e. absurd (cc); closing = refl; pending = refl }
-is-ended-at part Done created asked sent stored rest pending closing = record { not_open = λ e. absurd (cc); closing = refl; pending = refl }
-is-ended-at part (Failed errno) created asked sent stored rest pending closing = record { not_open = λ e. absurd (cc); closing = refl; pending = refl }
-
 pub is-ended : (u : Upload) → IsEnded u (ended u)
-is-ended u = is-ended-at u.part u.state u.created u.asked u.sent u.stored u.rest u.pending u.closing
+is-ended = ended-by IsEnded (λ u closed. record { not_open = closed; closing = refl; pending = refl }) (λ u opened. record { not_open = λ e. absurd (cc); closing = refl; pending = refl })

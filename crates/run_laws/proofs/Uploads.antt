@@ -14,19 +14,11 @@ use Rattle.upload_rules.specs.declared.upload.Created.TheVariants.{NotAsked, Ask
 use Rattle.upload_rules.specs.declared.upload.UpAsk.{UpAsk}
 use Rattle.upload_rules.specs.declared.upload.UpAsk.TheVariants.{Create, Part, Complete, Abort}
 use Rattle.upload_rules.specs.Upload.{Upload, new_upload, due, has_part, is_full, ask_part, with_ask, with_bytes, with_closing, finished, fails_with, with_failure, with_id, with_stored, completed, given_up}
-use Rattle.upload_rules.proofs.Due.{upload, part-left, due-is}
+use Rattle.upload_rules.proofs.Due.{upload, part-left, due-is, chosen, chosen-of-two}
 use Rattle.mount_model.specs.Conversation.{errno_of, ended}
 use Rattle.mount_model.specs.Writers.{asking_for, hears_answer, has_failed, lacking, settled, back_times}
 use Rattle.run_laws.specs.Counts.{is_create, is_part, is_complete, is_abort}
 use Rattle.run_laws.specs.Uploads.{Tally, IsGoing, IsCompleting, IsGivenUp, IsSpent, IsBroken, IsTalliedIn, IsTallied, if_asked, if_awaited, MayHaveParts}
-
-chosen : {A : Type 0} (P : A → Type 0) (b : Bool) (x y : A) → (if b then Some x else None) ≡ Some y → (b ≡ true → P x) → P y
-chosen P true x y is holds = subst P (let same : x ≡ y = cc in same) (holds refl)
-chosen P false x y is holds = absurd (cc)
-
-chosen-of-two : {A : Type 0} (P : A → Type 0) (b c : Bool) (x z y : A) → (if b then Some x else (if c then Some z else None)) ≡ Some y → (b ≡ true → P x) → (b ≡ false → c ≡ true → P z) → P y
-chosen-of-two P true c x z y is first second = subst P (let same : x ≡ y = cc in same) (first refl)
-chosen-of-two P false c x z y is first second = chosen P c z y is (second refl)
 
 -- one more call was asked for
 pub record Adds (called : Call) (t now : Tally) : Type 0 where

@@ -3,7 +3,7 @@
 //! function is a theorem, and its clauses say it.
 #![tactic(auto)]
 
-ghost use Rattle.std.specs.Prelude.{◌≡◌, ◌≢◌, ℕ, ◌+◌, ◌*◌, ◌<◌, ◌≤◌, List, [], ◌∷◌, ◌++◌, map, length, true, false, Option, Some, Result, Ok, Err};
+ghost use Rattle.std.specs.Prelude.{◌≡◌, ◌≢◌, ℕ, ◌+◌, ◌*◌, ◌<◌, ◌≤◌, List, [], map, length, true, false, Some, Ok, Err};
 ghost use Rattle.std.specs.FinMap as table;
 ghost use Rattle.std.specs.List.{AllByRecursion};
 ghost use Rattle.mp_types.specs.declared.options.Opts.{Opts};
@@ -46,7 +46,7 @@ ghost use Rattle.run_laws.specs.Listings.{HasListing};
 ghost use Rattle.run_laws.specs.Order.{IsInOrder};
 ghost use Rattle.run_laws.specs.Once.{begins_in, replies_in, replied_in, for_phase};
 ghost use Rattle.run_laws.specs.Served.{IsOfLine, IsOwned, HasJob};
-ghost use Rattle.run_laws.specs.Work.{calls_left, writer_calls, work_left};
+ghost use Rattle.run_laws.specs.Work.{calls_left, work_left};
 ghost use Rattle.run_laws.specs.Writers.{awaits_writer, waiting_line, IsWriter, HasWriter, HasReply, WaitsForWriter, AsksOnce};
 
 /// What holds before the first step holds after each one.

@@ -1,5 +1,5 @@
 ghost use Rattle.mp_types.specs.Count.{HasRisen};
-ghost use Rattle.std.specs.Prelude.{◌≡◌, ◌≢◌, ℕ, ◌<◌, ◌≤◌, true, List, length, Option, Some};
+ghost use Rattle.std.specs.Prelude.{◌≡◌, ◌≢◌, ℕ, ◌<◌, ◌≤◌, true, length, Option, Some};
 ghost use Rattle.bucket_model.specs.declared.answer.Brief.TheVariants.{Fault};
 ghost use Rattle.bucket_model.specs.Answers.{MayBeMade, brief_of, fits, is_counted};
 ghost use Rattle.bucket_model.specs.History.{History, IsLegalHistory, versions_of};

@@ -45,11 +45,12 @@ IsDue u (Part number from to) = IsPartDue u number from to
 IsDue u (Complete parts) = IsCompleteDue u parts
 IsDue u Abort = IsAbortDue u
 
-chosen : {A : Type 0} (P : A → Type 0) (b : Bool) (x y : A) → (if b then Some x else None) ≡ Some y → (b ≡ true → P x) → P y
+-- what an `if` gave
+pub chosen : {A : Type 0} (P : A → Type 0) (b : Bool) (x y : A) → (if b then Some x else None) ≡ Some y → (b ≡ true → P x) → P y
 chosen P true x y is holds = subst P (let same : x ≡ y = cc in same) (holds refl)
 chosen P false x y is holds = absurd (cc)
 
-chosen-of-two : {A : Type 0} (P : A → Type 0) (b c : Bool) (x z y : A) → (if b then Some x else (if c then Some z else None)) ≡ Some y → (b ≡ true → P x) → (b ≡ false → c ≡ true → P z) → P y
+pub chosen-of-two : {A : Type 0} (P : A → Type 0) (b c : Bool) (x z y : A) → (if b then Some x else (if c then Some z else None)) ≡ Some y → (b ≡ true → P x) → (b ≡ false → c ≡ true → P z) → P y
 chosen-of-two P true c x z y is first second = subst P (let same : x ≡ y = cc in same) (first refl)
 chosen-of-two P false c x z y is first second = chosen P c z y is (second refl)
 

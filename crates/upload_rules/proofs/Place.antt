@@ -67,7 +67,8 @@ life-place part happenings number from to life is =
     let s = life-stands part happenings number from to life is in
     record { number_is = s.number_is; from_is = s.from_is; to_is = s.to_is; bytes_are = s.bytes_are }
 
-few : (part limit asked rest taken : ℕ) → 1 ≤ rest → asked * part + rest ≡ taken → taken ≤ part * limit → asked + 1 ≤ limit
+-- so many parts fit into a limit on bytes
+pub few : (part limit asked rest taken : ℕ) → 1 ≤ rest → asked * part + rest ≤ taken → taken ≤ part * limit → asked + 1 ≤ limit
 few part limit asked rest taken some sum fits = elim (or_more asked limit) [
   | inl less ↦ less
   | inr more ↦ absurd (let most = mul-le-mul_left part more in omega arith)
@@ -80,9 +81,9 @@ few-due : (part limit : ℕ) (u : Upload) (taken : List ℕ) (number from to : �
 few-due part limit u taken number from to some most fits part_is d s =
     let sum : u.asked * part + length u.rest ≡ length taken = ap (λ (n : ℕ). n + length u.rest) (sym s.from_is) ∙ s.rest_is in
     elim d.full_or_last [
-      | inl full ↦ few part limit u.asked (length u.rest) (length taken) (omega arith) sum fits
+      | inl full ↦ few part limit u.asked (length u.rest) (length taken) (omega arith) (omega (arith, sum)) fits
       | inr last ↦ elim last.1 [
-        | inl left ↦ few part limit u.asked (length u.rest) (length taken) left sum fits
+        | inl left ↦ few part limit u.asked (length u.rest) (length taken) left (omega (arith, sum)) fits
         | inr none ↦ omega arith
       ]
     ]

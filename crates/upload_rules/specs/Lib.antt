@@ -1,3 +1,4 @@
 pub mod Place
+pub mod Refusal
 pub mod Run
 pub mod Upload

@@ -80,35 +80,40 @@ due u = by_state u.state
 
 -- what was due is asked for
 abbrev pub with_ask : UpAsk → Upload → Upload
-with_ask Create u = record { part = u.part; state = u.state; created = Asked; asked = u.asked; sent = u.sent; stored = u.stored; rest = u.rest; pending = u.pending + 1; closing = u.closing }
-with_ask (Part number from to) u = record { part = u.part; state = u.state; created = u.created; asked = u.asked + 1; sent = to; stored = u.stored; rest = drop (to - from) u.rest; pending = u.pending + 1; closing = u.closing }
-with_ask other u = record { part = u.part; state = u.state; created = u.created; asked = u.asked; sent = u.sent; stored = u.stored; rest = u.rest; pending = u.pending + 1; closing = u.closing }
+with_ask Create u = record u { created = Asked; pending = u.pending + 1 }
+with_ask (Part number from to) u = record u { asked = u.asked + 1; sent = to; rest = drop (to - from) u.rest; pending = u.pending + 1 }
+with_ask other u = record u { pending = u.pending + 1 }
+
+-- what may be due is asked for
+abbrev pub with_due : Option UpAsk → Upload → Upload
+with_due None u = u
+with_due (Some ask) u = with_ask ask u
 
 -- more bytes are written
 abbrev pub with_bytes : List ℕ → Upload → Upload
-with_bytes bytes u = record { part = u.part; state = u.state; created = u.created; asked = u.asked; sent = u.sent; stored = u.stored; rest = u.rest ++ bytes; pending = u.pending; closing = u.closing }
+with_bytes bytes u = record u { rest = u.rest ++ bytes }
 
 abbrev pub with_state : UpState → Upload → Upload
-with_state state u = record { part = u.part; state = state; created = u.created; asked = u.asked; sent = u.sent; stored = u.stored; rest = u.rest; pending = u.pending; closing = u.closing }
+with_state state u = record u { state = state }
 
 -- all bytes are written
 abbrev pub finished : Upload → Upload
 finished u = with_state Finished u
 
 abbrev pub with_closing : Upload → Upload
-with_closing u = record { part = u.part; state = u.state; created = u.created; asked = u.asked; sent = u.sent; stored = u.stored; rest = u.rest; pending = u.pending; closing = true }
+with_closing u = record u { closing = true }
 
 -- one call is back
 abbrev pub with_back : Upload → Upload
-with_back u = record { part = u.part; state = u.state; created = u.created; asked = u.asked; sent = u.sent; stored = u.stored; rest = u.rest; pending = u.pending - 1; closing = u.closing }
+with_back u = record u { pending = u.pending - 1 }
 
 -- the upload has this id
 abbrev pub with_id : ℕ → Upload → Upload
-with_id upload u = with_back (record { part = u.part; state = u.state; created = Known upload; asked = u.asked; sent = u.sent; stored = u.stored; rest = u.rest; pending = u.pending; closing = u.closing })
+with_id upload u = with_back (record u { created = Known upload })
 
 -- a part is stored
 abbrev pub with_stored : Upload → Upload
-with_stored u = with_back (record { part = u.part; state = u.state; created = u.created; asked = u.asked; sent = u.sent; stored = u.stored + 1; rest = u.rest; pending = u.pending; closing = u.closing })
+with_stored u = with_back (record u { stored = u.stored + 1 })
 
 -- the object was made
 abbrev pub completed : Upload → Upload
@@ -119,8 +124,8 @@ abbrev pub fails_with : Errno → Upload → Upload
 fails_with errno u = by_state u.state
   where
     by_state : UpState → Upload
-    by_state Open = record { part = u.part; state = Failed errno; created = u.created; asked = u.asked; sent = u.sent; stored = u.stored; rest = []; pending = u.pending; closing = u.closing }
-    by_state Finished = record { part = u.part; state = Failed errno; created = u.created; asked = u.asked; sent = u.sent; stored = u.stored; rest = []; pending = u.pending; closing = u.closing }
+    by_state Open = record u { state = Failed errno; rest = [] }
+    by_state Finished = record u { state = Failed errno; rest = [] }
     by_state Done = u
     by_state (Failed first) = u
 
@@ -130,4 +135,4 @@ with_failure errno u = fails_with errno (with_back u)
 
 -- the upload was given up, whatever the bucket answered
 abbrev pub given_up : Upload → Upload
-given_up u = with_back (record { part = u.part; state = u.state; created = GivenUp; asked = u.asked; sent = u.sent; stored = u.stored; rest = u.rest; pending = u.pending; closing = u.closing })
+given_up u = with_back (record u { created = GivenUp })

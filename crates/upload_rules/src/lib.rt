@@ -7,4 +7,4 @@ mod laws;
 mod upload;
 
 pub use laws::{asking_is_once, parts_are_few, parts_are_the_bytes, parts_have_their_place};
-pub use upload::{Created, UpAsk, UpState};
+pub use upload::{Created, UpAsk, UpFault, UpState};

@@ -38,3 +38,18 @@ pub enum UpAsk {
     /// That the upload is given up.
     Abort,
 }
+
+/// Why a writer takes no bytes.
+#[derive(Clone, Copy, Debug, PartialEq, Eq)]
+pub enum UpFault {
+    /// The upload has failed.
+    Failed(Errno),
+    /// The writer has all its bytes.
+    Finished,
+    /// The bytes don't go behind those that were written.
+    OutOfOrder,
+    /// There would be more bytes than the most parts may have.
+    TooBig,
+    /// There is no memory.
+    Memory,
+}

@@ -1,25 +1,24 @@
 -- What holds of a writer's upload and its jobs, when jobs and upload change.
-use Rattle.std.proofs.Common.{◌≡◌, ◌≢◌, ℕ, zero, suc, ◌+◌, ◌-◌, List, [], ◌∷◌, ◌++◌, map, length, drop, slice_get, Bool, true, false, Option, Some, None, ◌⊎◌, inl, inr, refl, sym, ap, ◌∙◌, subst, arith, append_assoc}
+use Rattle.std.proofs.Common.{◌≡◌, ◌≢◌, ℕ, zero, suc, ◌+◌, ◌-◌, List, [], ◌∷◌, ◌++◌, map, length, drop, slice_get, Bool, true, false, Some, None, ◌⊎◌, inl, inr, refl, sym, ap, ◌∙◌, subst, arith, append_assoc}
 use Rattle.std.proofs.lemmas.List.{length-append}
 use Rattle.mp_types.specs.declared.errno.Errno.{Errno}
-use Rattle.mp_types.specs.declared.errno.Errno.TheVariants.{Enomem}
 use Rattle.bucket_model.specs.declared.call.Call.TheVariants as call
 use Rattle.bucket_model.specs.declared.history.Logged.{Logged}
 use Rattle.upload_rules.specs.declared.upload.UpState.{UpState}
 use Rattle.upload_rules.specs.declared.upload.UpState.TheVariants.{Open, Finished, Done, Failed}
 use Rattle.upload_rules.specs.declared.upload.Created.{Created}
 use Rattle.upload_rules.specs.declared.upload.Created.TheVariants.{NotAsked, Asked, Known, GivenUp}
-use Rattle.upload_rules.specs.declared.upload.UpAsk.{UpAsk}
-use Rattle.upload_rules.specs.declared.upload.UpAsk.TheVariants.{Create, Part, Complete, Abort}
+use Rattle.upload_rules.specs.declared.upload.UpAsk.TheVariants.{Create, Part}
 use Rattle.upload_rules.specs.Upload.{Upload, new_upload, due, next_part, with_ask, with_bytes, with_back, with_closing, fails_with}
 use Rattle.upload_rules.specs.Run.{joined, HasFailed}
-use Rattle.upload_rules.proofs.Due.{upload, due-is}
+use Rattle.upload_rules.proofs.Due.{due-is}
 use Rattle.upload_rules.proofs.Parts.{joined-push, take-then-drop}
 use Rattle.mount_model.specs.declared.event.Owner.TheVariants as owner
 use Rattle.mount_model.specs.Conversation.{ended}
-use Rattle.mount_model.specs.Writers.{has_failed, lacking, settled, back_times}
+use Rattle.mount_model.specs.Writers.{has_failed, settled, back_times}
 use Rattle.mount_model.specs.State.{Job, Gone, job_at}
 use Rattle.upload_history.specs.Entries.{IsNumbered}
+use Rattle.run_laws.proofs.Changes.{fails-by, ended-by, lacking-by, backs-by}
 use Rattle.write_laws.specs.Accounted.{Place, StandsAt, upload_in, HasCreated, HasPart, HasMade, AreOfWriter, IsFilled}
 use Rattle.write_laws.proofs.Found.{found-front, new-found, found-new, Moves, found-moved, moved-found}
 use Rattle.write_laws.proofs.Moved.{owner-moved, call-moved}
@@ -163,50 +162,30 @@ same-then u v w first second = record {
 pub same-self : (u : Upload) → HoldsSame u u
 same-self u = record { asked_is = refl; created_is = refl; rest_is = λ alive. (alive, refl); done_is = λ done. done }
 
-fails-at : (errno : Errno) (part : ℕ) (state : UpState) (created : Created) (asked sent stored : ℕ) (rest : List ℕ) (pending : ℕ) (closing : Bool) → HoldsSame (upload part state created asked sent stored rest pending closing) (fails_with errno (upload part state created asked sent stored rest pending closing))
-fails-at errno part Open created asked sent stored rest pending closing = record { asked_is = refl; created_is = refl; rest_is = λ alive. absurd (cc); done_is = λ done. absurd (cc) }
-fails-at errno part Finished created asked sent stored rest pending closing = record { asked_is = refl; created_is = refl; rest_is = λ alive. absurd (cc); done_is = λ done. absurd (cc) }
-fails-at errno part Done created asked sent stored rest pending closing = same-self (upload part Done created asked sent stored rest pending closing)
-fails-at errno part (Failed first) created asked sent stored rest pending closing = same-self (upload part (Failed first) created asked sent stored rest pending closing)
-
 pub same-fails : (errno : Errno) (u : Upload) → HoldsSame u (fails_with errno u)
-same-fails errno u = fails-at errno u.part u.state u.created u.asked u.sent u.stored u.rest u.pending u.closing
+same-fails = fails-by HoldsSame same-self (λ errno u. record { asked_is = refl; created_is = refl; rest_is = λ alive. absurd (cc); done_is = λ done. absurd (cc) })
 
 pub same-back : (u : Upload) → HoldsSame u (with_back u)
 same-back u = record { asked_is = refl; created_is = refl; rest_is = λ alive. (alive, refl); done_is = λ done. done }
 
 pub same-backs : (drops : ℕ) (u : Upload) → HoldsSame u (back_times drops u)
-same-backs zero u = same-self u
-same-backs (suc drops) u = same-then u (with_back u) (back_times drops (with_back u)) (same-back u) (same-backs drops (with_back u))
-
-same-lacking : (u : Upload) (o : Option UpAsk) → HoldsSame u (lacking o u)
-same-lacking u None = same-self u
-same-lacking u (Some Create) = same-fails Enomem u
-same-lacking u (Some (Part number from to)) = same-fails Enomem u
-same-lacking u (Some (Complete parts)) = same-fails Enomem u
-same-lacking u (Some Abort) = same-self u
+same-backs = backs-by HoldsSame same-self same-then same-back
 
 pub same-settled : (u : Upload) → HoldsSame u (settled u)
-same-settled u = same-lacking u (due u)
-
-ended-at : (part : ℕ) (state : UpState) (created : Created) (asked sent stored : ℕ) (rest : List ℕ) (pending : ℕ) (closing : Bool) → HoldsSame (upload part state created asked sent stored rest pending closing) (ended (upload part state created asked sent stored rest pending closing))
-ended-at part Open created asked sent stored rest pending closing = record { asked_is = refl; created_is = refl; rest_is = λ alive. (refl, refl); done_is = λ done. absurd (cc) }
-ended-at part Finished created asked sent stored rest pending closing = same-self (upload part Finished created asked sent stored rest pending closing)
-ended-at part Done created asked sent stored rest pending closing = same-self (upload part Done created asked sent stored rest pending closing)
-ended-at part (Failed first) created asked sent stored rest pending closing = same-self (upload part (Failed first) created asked sent stored rest pending closing)
-
-pub same-ended : (u : Upload) → HoldsSame u (ended u)
-same-ended u = ended-at u.part u.state u.created u.asked u.sent u.stored u.rest u.pending u.closing
-
-pub same-closing : (u : Upload) → HoldsSame u (with_closing u)
-same-closing u = record { asked_is = refl; created_is = refl; rest_is = λ alive. (alive, refl); done_is = λ done. done }
-
--- bytes come
+same-settled u = lacking-by HoldsSame same-self same-fails u (due u)
 
 -- whether a writer in this state has failed
 abbrev pub failed_in : UpState → Bool
 failed_in (Failed errno) = true
 failed_in other = false
+
+pub same-ended : (u : Upload) → HoldsSame u (ended u)
+same-ended = ended-by HoldsSame (λ u closed. same-self u) (λ u opened. record { asked_is = refl; created_is = refl; rest_is = λ alive. (ap failed_in opened, refl); done_is = λ done. absurd (cc) })
+
+pub same-closing : (u : Upload) → HoldsSame u (with_closing u)
+same-closing u = record { asked_is = refl; created_is = refl; rest_is = λ alive. (alive, refl); done_is = λ done. done }
+
+-- bytes come
 
 alive-at : (state : UpState) (u : Upload) → u.state ≡ state → (HasFailed u → ⊥) → has_failed u ≡ false
 alive-at (Failed errno) u at alive = absurd (alive (errno, at))

@@ -1,7 +1,7 @@
 -- What a line does next that names the handle of a writer, and what lines ask for on their own.
-use Rattle.std.proofs.Common.{◌≡◌, ℕ, ◌+◌, ◌*◌, List, [], ◌∷◌, length, Bool, true, false, not, ◌==◌, nat_lt, if◌then◌else◌, Option, Some, None, Result, Ok, Err, refl, sym, ap, subst}
+use Rattle.std.proofs.Common.{◌≡◌, ℕ, List, [], ◌∷◌, length, Bool, true, false, not, ◌==◌, nat_lt, if◌then◌else◌, Option, Some, None, Result, Ok, Err, refl, sym, ap, subst}
 use Rattle.mp_types.specs.declared.errno.Errno.{Errno}
-use Rattle.mp_types.specs.declared.errno.Errno.TheVariants.{Ebadf, Einval, Efbig, Eisdir, Emfile, Enotempty, Eoverflow, Eperm}
+use Rattle.mp_types.specs.declared.errno.Errno.TheVariants.{Ebadf, Einval, Eisdir, Emfile, Enotempty, Eoverflow, Eperm}
 use Rattle.mp_types.specs.declared.path.PathFault.{PathFault}
 use Rattle.mp_types.specs.declared.octets.Data.{Data}
 use Rattle.mp_types.specs.HandleName.{max_handles}
@@ -21,10 +21,8 @@ use Rattle.bucket_model.specs.declared.page.Page.{Page}
 use Rattle.bucket_model.specs.declared.answer.Brief.{Brief}
 use Rattle.bucket_model.specs.declared.answer.Brief.TheVariants as answer
 use Rattle.bucket_model.specs.declared.answer.Brief.TheVariants.{Missing, Bytes, Changed, Gone, Made}
-use Rattle.bucket_model.specs.Answers.{max_parts}
-use Rattle.upload_rules.specs.declared.upload.UpState.{UpState}
 use Rattle.upload_rules.specs.declared.upload.UpState.TheVariants as state
-use Rattle.upload_rules.specs.Upload.{written, with_bytes}
+use Rattle.upload_rules.specs.Upload.{with_bytes}
 use Rattle.mount_model.specs.declared.request.Request.{Request}
 use Rattle.mount_model.specs.declared.request.Request.TheVariants as request
 use Rattle.mount_model.specs.declared.request.Request.TheVariants.{Put, Await, Stat, OpenRead, OpenWrite, OpenTruncate, Read, Write, Sync, Close, Delete, MakeDir, RemoveDir, Unlink}
@@ -36,7 +34,10 @@ use Rattle.mount_model.specs.declared.handle.Waiter.TheVariants as waiter
 use Rattle.mount_model.specs.declared.standing.Heard.{Heard}
 use Rattle.mount_model.specs.Heard.{call_of}
 use Rattle.mount_model.specs.Handles.{Handle, Writer, name_in}
-use Rattle.mount_model.specs.Conversation.{Next, Asks, Replies, Removes, Opens, Creates, Lists, Writes, Ends, View, Range, range_in, fails, put_next, delete_next, at_path, along, stat_at, stat_next, opens_if, open_at, create_at, open_next, make_at, make_next, remove_at, remove_next, unlink_at, unlink_next, max_pages, pages_in, last_of, asks_page, behind_page, behind_answer, list_at, list_next, range_next, read_next, with_upload, waited_for, write_at, write_to, write_next, sync_next, close_next, next_of}
+use Rattle.upload_rules.specs.declared.upload.UpFault.{UpFault}
+use Rattle.upload_rules.specs.Refusal.{refusal}
+use Rattle.upload_rules.proofs.Taken.{taken}
+use Rattle.mount_model.specs.Conversation.{Next, Asks, Replies, Removes, Opens, Creates, Lists, Writes, Ends, View, Range, range_in, fails, put_next, delete_next, at_path, along, stat_at, stat_next, opens_if, open_at, create_at, open_next, make_at, make_next, remove_at, remove_next, unlink_at, unlink_next, max_pages, pages_in, last_of, asks_page, behind_page, behind_answer, list_at, list_next, range_next, read_next, with_upload, waited_for, errno_for, written_or, write_to, write_next, sync_next, close_next, next_of}
 use Rattle.mount_model.specs.Written.{content_in}
 use Rattle.run_laws.specs.Writers.{waiting_line}
 use Rattle.run_laws.proofs.Conversation.{ends_as}
@@ -55,29 +56,19 @@ open-named at view w request path heard live = subst (λ (h : Option Handle). Na
     go (Err why) = FailsSo _ refl
     go (Ok names) = FailsSo Einval refl
 
--- a write, by how far its writer is
-abbrev write_by : Writer → ℕ → List ℕ → UpState → Next
-write_by w offset bytes state.Open = write_at w offset bytes
-write_by w offset bytes (state.Failed errno) = fails errno
-write_by w offset bytes other = fails Einval
-
-write-named : (line : ℕ) (w : Writer) (name offset : ℕ) (content : Data) (state : UpState) → w.upload.state ≡ state → NamedNext line (Write name offset content) w (write_to w offset (bytes_of content))
-write-named line w name offset content (state.Failed errno) at = FailsSo errno (ap (write_by w offset (bytes_of content)) at)
-write-named line w name offset content state.Finished at = FailsSo Einval (ap (write_by w offset (bytes_of content)) at)
-write-named line w name offset content state.Done at = FailsSo Einval (ap (write_by w offset (bytes_of content)) at)
-write-named line w name offset content state.Open at = subst (NamedNext line (Write name offset content) w) (sym (ap (write_by w offset (bytes_of content)) at)) (go (not (offset == written w.upload)) (nat_lt (w.upload.part * max_parts) (offset + length (bytes_of content))))
+write-named : (line : ℕ) (w : Writer) (name offset : ℕ) (content : Data) → NamedNext line (Write name offset content) w (write_to w offset (bytes_of content))
+write-named line w name offset content = by (refusal w.upload offset (length (bytes_of content))) refl
   where
-    go : (b c : Bool) → NamedNext line (Write name offset content) w (if b then fails Einval else (if c then fails Efbig else Writes (length (bytes_of content)) (with_upload (with_bytes (bytes_of content) w.upload) w)))
-    go true c = FailsSo Einval refl
-    go false true = FailsSo Efbig refl
-    go false false = WritesMore (length (bytes_of content)) at refl
+    by : (o : Option UpFault) → refusal w.upload offset (length (bytes_of content)) ≡ o → NamedNext line (Write name offset content) w (written_or w (bytes_of content) o)
+    by (Some why) is = FailsSo (errno_for why) refl
+    by None is = WritesMore (length (bytes_of content)) (taken w.upload offset (length (bytes_of content)) is).opened refl
 
 pub named-next : (view : View) (request : Request) (heard : Heard) (name : ℕ) (w : Writer) → name_in request ≡ Some name → view.handle ≡ Some (Writing w) → NamedNext view.line request w (next_of view request heard)
 named-next view (OpenRead own path) heard name w names live = open-named open_at view w (OpenRead own path) (path_of path) heard live
 named-next view (OpenWrite own path) heard name w names live = open-named (create_at false) view w (OpenWrite own path) (path_of path) heard live
 named-next view (OpenTruncate own path) heard name w names live = open-named (create_at view.options.allow_overwrite) view w (OpenTruncate own path) (path_of path) heard live
 named-next view (Read own offset count) heard name w names live = FailsSo Ebadf (ap (λ (h : Option Handle). read_next h offset count heard.answers) live)
-named-next view (Write own offset content) heard name w names live = subst (λ (h : Option Handle). NamedNext view.line (Write own offset content) w (write_next h offset (bytes_of content))) (sym live) (write-named view.line w own offset content w.upload.state refl)
+named-next view (Write own offset content) heard name w names live = subst (λ (h : Option Handle). NamedNext view.line (Write own offset content) w (write_next h offset (bytes_of content))) (sym live) (write-named view.line w own offset content)
 named-next view (Sync own) heard name w names live = HasEnd (waiter.Sync view.line) refl (ap (sync_next view.line) live)
 named-next view (Close own) heard name w names live = HasEnd (waiter.Close view.line) refl (ap (close_next view.line) live)
 named-next view (Put key content) heard name w names live = absurd (cc)
@@ -244,7 +235,7 @@ named-none line request w next (HasEnd who waits is) = subst NamesNone (sym is) 
 write-none : (handle : Option Handle) (offset : ℕ) (content : Data) → NamesNone (write_next handle offset (bytes_of content))
 write-none None offset content = tt
 write-none (Some (Reading line version)) offset content = tt
-write-none (Some (Writing w)) offset content = named-none 0 (Write 0 offset content) w (write_to w offset (bytes_of content)) (write-named 0 w 0 offset content w.upload.state refl)
+write-none (Some (Writing w)) offset content = named-none 0 (Write 0 offset content) w (write_to w offset (bytes_of content)) (write-named 0 w 0 offset content)
 
 sync-none : (line : ℕ) (handle : Option Handle) → NamesNone (sync_next line handle)
 sync-none line None = tt

@@ -11,20 +11,20 @@ use Rattle.mem_store.proofs.listing.list_page.Goals as goal
 pub loop-key-init : goal.loop-key-init
 loop-key-init c = listing_begins c.args.prefix.now c.args.after.now c.args.max c.args.objects.now c.new-items.result.items c.in_ok-entries.entries c.new-items.ensures.items c.in_ok-entries.ensures
 
-pub returns-in_default-behind_prefix-clause-page : goal.returns-in_default-behind_prefix-clause-page
-returns-in_default-behind_prefix-clause-page c =
+pub returns-in_default-behind-clause-page : goal.returns-in_default-behind-clause-page
+returns-in_default-behind-clause-page c =
     let P : List PageItem → Page = λ items. record { items = items; more = false } in
     listing_stops c.in-Some.key.now c.in-Some.object.now c.next.new.self (P c.in_ok-from_vec.field-0) c.loop-key.invariant c.in-Some.ensures.steps
-    (ap (λ p. has_prefix p c.in-Some.key.now) (sym c.as_str-in-Some.ensures) ∙ ap (λ k. has_prefix c.as_str-in-Some.result.now k) (sym c.as_str.ensures) ∙ c.in_default-behind_prefix.ensures) (ap P c.in_ok-from_vec.ensures)
+    (ap (λ p. has_prefix p c.in-Some.key.now) (sym c.as_str-in-Some.ensures) ∙ ap (λ k. has_prefix c.as_str-in-Some.result.now k) (sym c.as_str.ensures) ∙ c.in_default-behind.ensures) (ap P c.in_ok-from_vec.ensures)
 
-pub returns-in_default-behind_prefix-clause-ordered : goal.returns-in_default-behind_prefix-clause-ordered
-returns-in_default-behind_prefix-clause-ordered c = c.loop-key.invariant.stand.ordered
+pub returns-in_default-behind-clause-ordered : goal.returns-in_default-behind-clause-ordered
+returns-in_default-behind-clause-ordered c = c.loop-key.invariant.stand.ordered
 
 pub returns-then-len-max-clause-page : goal.returns-then-len-max-clause-page
 returns-then-len-max-clause-page c =
     let P : List PageItem → Page = λ items. record { items = items; more = true } in
     listing_is_full c.in-Some.key.now c.in-Some.object.now c.next.new.self (P c.in_ok-from_vec-2.field-0) c.loop-key.invariant c.in-Some.ensures.steps
-    (ap (λ p. has_prefix p c.in-Some.key.now) (sym c.as_str-in-Some.ensures) ∙ has_front c.as_str-in-Some.result.now c.in-Some.key.now c.in-Some-behind_prefix.rest.now (sym c.as_str.ensures ∙ c.in-Some-behind_prefix.ensures))
+    (ap (λ p. has_prefix p c.in-Some.key.now) (sym c.as_str-in-Some.ensures) ∙ has_front c.as_str-in-Some.result.now c.in-Some.key.now c.in-Some-behind.rest.now (sym c.as_str.ensures ∙ c.in-Some-behind.ensures))
     (omega (arith, c.len.ensures, c.if-len-max.true, c.loop-key.items.ok.0)) (ap P c.in_ok-from_vec-2.ensures)
 
 pub returns-then-len-max-clause-ordered : goal.returns-then-len-max-clause-ordered
@@ -35,20 +35,20 @@ object_item-requires c = key_fits c.in-Some.key.now c.in-Some.object.now c.next.
 
 pub loop-key-preserved-in_default-before_slash : goal.loop-key-preserved-in_default-before_slash
 loop-key-preserved-in_default-before_slash c =
-    object_listed c.in-Some.key.now c.in-Some-behind_prefix.rest.now c.in-Some.object.now c.next.new.self c.push.new.self.items c.in_ok-object_item.field-0 c.loop-key.invariant c.in-Some.ensures.steps
-    (sym c.as_str.ensures ∙ c.in-Some-behind_prefix.ensures ∙ ap (λ p. p ++ c.in-Some-behind_prefix.rest.now) c.as_str-in-Some.ensures) c.in_default-before_slash.ensures
+    object_listed c.in-Some.key.now c.in-Some-behind.rest.now c.in-Some.object.now c.next.new.self c.push.new.self.items c.in_ok-object_item.field-0 c.loop-key.invariant c.in-Some.ensures.steps
+    (sym c.as_str.ensures ∙ c.in-Some-behind.ensures ∙ ap (λ p. p ++ c.in-Some-behind.rest.now) c.as_str-in-Some.ensures) c.in_default-before_slash.ensures
     (λ full. omega (arith, c.if-len-max.false, c.len.ensures, full, c.loop-key.items.ok.0)) c.in_ok-object_item.ensures c.in_ok-push.ensures.items
 
 pub loop-key-smaller : goal.loop-key-smaller
 loop-key-smaller c =
-    passes_some c.in-Some.key.now c.in-Some-behind_prefix.rest.now c.in-Some-before_slash.name.now c.in-Some.object.now c.next.new.self c.in_ok-entries-2.entries c.loop-key.invariant c.in-Some.ensures.steps
-    (sym c.as_str.ensures ∙ c.in-Some-behind_prefix.ensures ∙ ap (λ p. p ++ c.in-Some-behind_prefix.rest.now) c.as_str-in-Some.ensures) c.in-Some-before_slash.ensures
+    passes_some c.in-Some.key.now c.in-Some-behind.rest.now c.in-Some-before_slash.name.now c.in-Some.object.now c.next.new.self c.in_ok-entries-2.entries c.loop-key.invariant c.in-Some.ensures.steps
+    (sym c.as_str.ensures ∙ c.in-Some-behind.ensures ∙ ap (λ p. p ++ c.in-Some-behind.rest.now) c.as_str-in-Some.ensures) c.in-Some-before_slash.ensures
     (c.in_ok-entries-2.ensures.from ∙ ap (λ p. entries_between (slice_cmp nat_cmp) (Included (p ++ (c.in-Some-before_slash.name.now ++ 48 ∷ []))) Unbounded c.args.objects.now.entries) c.as_str-in-Some-3.ensures)
 
 pub loop-key-preserved : goal.loop-key-preserved
 loop-key-preserved c =
-    prefix_listed c.in-Some.key.now c.in-Some-behind_prefix.rest.now c.in-Some-before_slash.name.now c.in_ok-joined.field-0 c.in-Some.object.now c.next.new.self c.in_ok-entries-2.entries c.push-in-Some.new.self.items c.loop-key.invariant
-    c.in-Some.ensures.steps (sym c.as_str.ensures ∙ c.in-Some-behind_prefix.ensures ∙ ap (λ p. p ++ c.in-Some-behind_prefix.rest.now) c.as_str-in-Some.ensures) c.in-Some-before_slash.ensures
+    prefix_listed c.in-Some.key.now c.in-Some-behind.rest.now c.in-Some-before_slash.name.now c.in_ok-joined.field-0 c.in-Some.object.now c.next.new.self c.in_ok-entries-2.entries c.push-in-Some.new.self.items c.loop-key.invariant
+    c.in-Some.ensures.steps (sym c.as_str.ensures ∙ c.in-Some-behind.ensures ∙ ap (λ p. p ++ c.in-Some-behind.rest.now) c.as_str-in-Some.ensures) c.in-Some-before_slash.ensures
     (λ full. omega (arith, c.if-len-max.false, c.len.ensures, full, c.loop-key.items.ok.0)) (c.in_ok-joined.ensures ∙ ap (λ p. p ++ (c.in-Some-before_slash.name.now ++ 47 ∷ [])) c.as_str-in-Some-2.ensures)
     (c.in_ok-entries-2.ensures.from ∙ ap (λ p. entries_between (slice_cmp nat_cmp) (Included (p ++ (c.in-Some-before_slash.name.now ++ 48 ∷ []))) Unbounded c.args.objects.now.entries) c.as_str-in-Some-3.ensures) c.in_ok-push-2.ensures.items
 

@@ -1,5 +1,5 @@
 -- A file that was added is there.
-use Rattle.std.proofs.Common.{◌≡◌, ℕ, cond, List, Option, Some, IsSome, is_some, refl, ap, ◌∙◌}
+use Rattle.std.proofs.Common.{◌≡◌, ℕ, cond, List, Some, IsSome, is_some, refl, ap, ◌∙◌}
 use Rattle.std.proofs.lemmas.Cmp.{tied_itself}
 use Rattle.std.specs.Cmp.Lexicographic.{slice_cmp, nat_list_cmp_total}
 use Rattle.std.specs.FinMap.{get, get-empty, get-insert}

@@ -18,7 +18,7 @@ turn_writer-requires-clause-writer c =
     let to = c.requires.waits in
     let w = to.wait.writer in
     let stands : get old.handles name ≡ _ = ap (get old.handles) (c.named_by-actor.ensures to.standing to.stands) ∙ named-holds to.standing.line old.handles (Writing w) to.wait.holds in
-    may_wait c.args.line c.args.waiter name old _ to c.requires.begun (c.requires.writers to.standing w to.stands to.wait.holds) (ap (λ (handles : Handles). with_handles handles (shared_in old)) (c.wait.ensures w stands)) (record { steps = refl; lines = refl; jobs = refl; time = refl; options = refl })
+    may_wait c.args.line c.args.waiter name old _ to c.requires.begun (c.requires.writers to.standing w to.stands to.wait.holds) (ap (λ (handles : Handles). with_handles handles (shared_in old)) (c.wait-was_under_way.ensures w stands).1) (record { steps = refl; lines = refl; jobs = refl; time = refl; options = refl })
 
 pub returns : goal.returns
 returns c = λ last bytes none.
@@ -28,5 +28,5 @@ returns c = λ last bytes none.
     let w = to.wait.writer in
     let named = c.named_by-actor.ensures to.standing to.stands in
     let stands : get old.handles name ≡ _ = ap (get old.handles) named ∙ named-holds to.standing.line old.handles (Writing w) to.wait.holds in
-    let put = c.wait.ensures w stands in
-    takes_waited c.args.line last bytes c.args.waiter name c.is_under_way-was_under_way.result old _ c.turn_writer.new.self c.requires.begun c.requires.step to none named (c.is_under_way-was_under_way.ensures w stands) (ap (λ (handles : Handles). with_handles handles (shared_in old)) put) (record { steps = refl; lines = refl; jobs = refl; time = refl; options = refl }) (c.turn_writer.ensures (waits c.args.waiter w) (ap (λ (handles : Handles). get handles name) put ∙ get_put old.handles name (Writing (waits c.args.waiter w))))
+    let put = c.wait-was_under_way.ensures w stands in
+    takes_waited c.args.line last bytes c.args.waiter name c.wait-was_under_way.result old _ c.turn_writer.new.self c.requires.begun c.requires.step to none named put.0 (ap (λ (handles : Handles). with_handles handles (shared_in old)) put.1) (record { steps = refl; lines = refl; jobs = refl; time = refl; options = refl }) (c.turn_writer.ensures (waits c.args.waiter w) (ap (λ (handles : Handles). get handles name) put.1 ∙ get_put old.handles name (Writing (waits c.args.waiter w))))

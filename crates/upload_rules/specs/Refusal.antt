@@ -4,8 +4,8 @@ use Rattle.bucket_model.specs.Answers.{max_parts}
 use Rattle.upload_rules.specs.declared.upload.UpState.{UpState}
 use Rattle.upload_rules.specs.declared.upload.UpState.TheVariants.{Open, Finished as HasAll, Done, Failed as HasFailed}
 use Rattle.upload_rules.specs.Upload.{Upload, written}
-use Rattle.part_uploader.specs.declared.fault.UpFault.{UpFault}
-use Rattle.part_uploader.specs.declared.fault.UpFault.TheVariants.{Failed, Finished, OutOfOrder, TooBig}
+use Rattle.upload_rules.specs.declared.upload.UpFault.{UpFault}
+use Rattle.upload_rules.specs.declared.upload.UpFault.TheVariants.{Failed, Finished, OutOfOrder, TooBig}
 
 -- bytes go behind those that were written, and there are at most so many
 abbrev pub refusal_open : Upload → ℕ → ℕ → Option UpFault
