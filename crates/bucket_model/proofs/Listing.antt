@@ -1,9 +1,9 @@
 -- What a listing's items and pages are.
 use Rattle.std.proofs.Common.{◌≡◌, ℕ, zero, suc, ◌≤◌, ◌<◌, Bool, true, false, not, ◌||◌, T, List, [], ◌∷◌, ◌++◌, map, length, take, drop, Option, Some, None, unwrap_or, refl, sym, ap, ◌∙◌, subst, filter, append_assoc, arith, take-append-drop, length-take-le, take_all, nat_cmp, nat_le, nat_lt, le-leb, lt-ltb, ltb-false, ltb-true, ◌⊎◌, inl, inr, cond, true≢false}
-use Rattle.std.specs.Cmp.{Equal-is, eq_by_cmp_equiv}
+use Rattle.std.specs.Cmp.{eq_by_cmp_equiv}
 use Rattle.std.specs.Cmp.Lexicographic.{slice_cmp, nat_list_cmp_total, on_texts_equal}
 use Rattle.std.specs.FinMap as finite
-use Rattle.std.specs.FinMap.{is_sorted, find, entries_sorted, nat_cmp-IsAntisymmetric, slice_cmp-IsAntisymmetric}
+use Rattle.std.specs.FinMap.{is_sorted, find, entries_sorted}
 use Rattle.std.specs.FinMap.Entries.{below_all}
 use Rattle.std.specs.List.{Contains, dedup, dedup_from, list_all, starts_with}
 use Rattle.std.specs.Ordering.{eq_by_cmp}
@@ -17,6 +17,7 @@ use Rattle.bucket_model.specs.declared.page.PageItem.TheVariants as item
 use Rattle.bucket_model.specs.Bucket.{BucketState}
 use Rattle.bucket_model.specs.Listing.{common_prefix, has_prefix, is_behind, is_page, is_same_item, item_of, items_under, page_of, rises_from, text_of}
 use Rattle.mp_types.proofs.Prefixes.{begins_itself}
+use Rattle.mp_types.proofs.Texts.{same_text}
 use Rattle.bucket_model.proofs.CommonPrefix.{common_is, text_climbs, text_has, text_under}
 use Rattle.bucket_model.proofs.Order.{is_before, not_before_itself}
 use Rattle.bucket_model.proofs.Rising.{AllBehind, AllFrom, Climbs, Rises, behind, behind_last, once_rises}
@@ -246,11 +247,8 @@ among x ys has = among_at x ys has.0 has.1 has.2
 tied : (key : List ℕ) → eq_by_cmp (slice_cmp nat_cmp) key key ≡ true
 tied key = (eq_by_cmp_equiv nat_list_cmp_total).refl key
 
-same_tied : (a b : List ℕ) → eq_by_cmp (slice_cmp nat_cmp) a b ≡ true → a ≡ b
-same_tied a b is = slice_cmp-IsAntisymmetric nat_cmp-IsAntisymmetric a b ((Equal-is (slice_cmp nat_cmp a b)).0 is)
-
 not_tied_by : (a b : List ℕ) (b' : Bool) → eq_by_cmp (slice_cmp nat_cmp) b a ≡ b' → is_before a b ≡ true → b' ≡ false
-not_tied_by a b true at less = absurd (true≢false (sym less ∙ ap (is_before a) (same_tied b a at) ∙ not_before_itself a))
+not_tied_by a b true at less = absurd (true≢false (sym less ∙ ap (is_before a) (same_text b a at) ∙ not_before_itself a))
 not_tied_by a b false at less = refl
 
 not_tied : (a b : List ℕ) → is_before a b ≡ true → eq_by_cmp (slice_cmp nat_cmp) b a ≡ false
@@ -263,7 +261,7 @@ none_is_some text is = absurd (cc)
 found_here : (key : List ℕ) (object : Object) (entry : List ℕ × Object) (objects : List (List ℕ × Object)) (b : Bool) → eq_by_cmp (slice_cmp nat_cmp) key entry.0 ≡ b
     → cond b (Some entry.1) (find (slice_cmp nat_cmp) key objects) ≡ Some object → (find (slice_cmp nat_cmp) key objects ≡ Some object → Among (key, object) objects) → Among (key, object) (entry ∷ objects)
 found_here key object entry objects true at is more =
-    let keys : entry.0 ≡ key = sym (same_tied key entry.0 at) in
+    let keys : entry.0 ≡ key = sym (same_text key entry.0 at) in
     let values : entry.1 ≡ object = ap (λ o. unwrap_or o object) is in
     inl (λ i. (keys i, values i))
 found_here key object entry objects false at is more = inr (more is)

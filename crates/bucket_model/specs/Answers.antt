@@ -7,6 +7,7 @@ use Rattle.bucket_model.specs.declared.call.Call.TheVariants.{Head, Probe, Get, 
 use Rattle.bucket_model.specs.declared.answer.Answer.{Answer}
 use Rattle.bucket_model.specs.declared.answer.Answer.TheVariants as answer
 use Rattle.bucket_model.specs.declared.answer.Brief.{Brief}
+use Rattle.bucket_model.specs.declared.history.Logged.{Logged}
 use Rattle.bucket_model.specs.declared.history.Name.{Name}
 use Rattle.bucket_model.specs.declared.history.Name.TheVariants as name
 use Rattle.bucket_model.specs.Listing.{is_page}
@@ -43,6 +44,10 @@ abbrev pub made_by : Brief → Option Name
 made_by (Made etag) = Some (name.Version etag)
 made_by (Upload upload) = Some (name.Upload upload)
 made_by other = None
+
+-- the entry of a call that took effect: its caller was told the first answer, and the second tells what was made
+abbrev pub entry_after : Call → Brief → Brief → Logged
+entry_after asked told said = record { entry = record { call = asked; answer = told; took = true }; made = made_by said }
 
 -- an upload has at most so many parts, as Amazon S3 says
 abbrev pub max_parts : ℕ

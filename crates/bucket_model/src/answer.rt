@@ -1,7 +1,7 @@
 ghost use Rattle.std.specs.Prelude.{◌≡◌, false, IfOk, IsOk};
-ghost use Rattle.bucket_model.specs.Answers.{brief_of, brings_page, bytes_in};
+ghost use Rattle.bucket_model.specs.Answers.{brief_of, brings_page, bytes_in, made_by};
 
-use crate::Page;
+use crate::{Name, Page};
 use bytes::Bytes;
 use mp_types::ETag;
 use std::alloc::AllocError;
@@ -56,6 +56,19 @@ pub enum Brief {
     NoUpload,
     Fault,
     NoMemory,
+}
+
+impl Brief {
+    /// The name that the answer tells of, if it tells of one. Takes no memory.
+    pub fn made(&self) -> Option<Name>
+        ensures { result ≡ made_by self.now }
+    {
+        match self {
+            Brief::Made(etag) => Some(Name::Version(etag.copy())),
+            Brief::Upload(upload) => Some(Name::Upload(*upload)),
+            _ => None,
+        }
+    }
 }
 
 impl Answer {

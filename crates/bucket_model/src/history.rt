@@ -1,3 +1,5 @@
+ghost use Rattle.std.specs.Prelude.{◌≡◌, ◌<◌, ◌∷◌, [], ◌++◌, vec_len, vec_capacity};
+
 use crate::{Brief, Call};
 use bytes::Bytes;
 use mp_types::ETag;
@@ -32,4 +34,15 @@ pub enum Name {
 pub struct Logged {
     pub entry: HEntry,
     pub made: Option<Name>,
+}
+
+/// Adds an entry, for which the log has room. Takes no memory.
+pub fn add_entry(log: &mut Vec<Logged>, entry: HEntry, made: Option<Name>)
+    requires { vec_len log.old < vec_capacity log.old }
+    ensures { log.new.items ≡ log.old.items ++ record { entry = entry; made = made } ∷ [] }
+{
+    match log.push(Logged { entry, made }) {
+        Ok(()) => {}
+        Err(_) => unreachable!(),
+    }
 }

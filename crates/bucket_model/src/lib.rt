@@ -9,5 +9,5 @@ mod page;
 
 pub use answer::{Answer, Brief};
 pub use call::Call;
-pub use history::{HEntry, Logged, Name, Object};
+pub use history::{HEntry, Logged, Name, Object, add_entry};
 pub use page::{Page, PageItem, pages_are_of_the_keys};

@@ -35,7 +35,7 @@ less-owed-by : (kept : Bool) (h : Held) (less held : List Held) → owes_jobs le
 less-owed-by true h less held more = omega (arith, more)
 less-owed-by false h less held more = omega (arith, more)
 
-less-owed : (job : ℕ) (held : List Held) → owes_jobs (without job held) ≤ owes_jobs held
+pub less-owed : (job : ℕ) (held : List Held) → owes_jobs (without job held) ≤ owes_jobs held
 less-owed job [] = omega arith
 less-owed job (h ∷ held) = less-owed-by (not (h.number == job)) h (without job held) held (less-owed job held)
 

@@ -13,15 +13,15 @@ use Rattle.mount_model.specs.Step.{Step, change_last}
 use Rattle.mount_model.specs.Handles.{Writer}
 use Rattle.mount_model.specs.Conversation.{with_upload}
 use Rattle.mount_model.specs.Writers.{Asking, first_asks, has_failed, settled, back_times, answer_to}
-use Rattle.mount_model.specs.State.{Job, Gone, in_phase, change_job, is_ready_for, ready_for, calls_in, gives_up, behind_asks, behind_drops, behind_step, askings_of, calls_of, jobs_made, jobs_of_writer}
+use Rattle.mount_model.specs.State.{Job, Gone, in_phase, change_job, is_ready_for, ready_for, calls_in, gives_up, behind_asks, behind_drops, behind_step, askings_of, calls_of, jobs_made, jobs_of_writer, AreNumbered}
 use Rattle.mount_model.specs.Run.{numbered, jobs_called}
-use Rattle.run_laws.specs.Alive.{AreNumbered as AreInOrder}
+use Rattle.mount_model.proofs.Numbered.{numbered-change, numbered-push}
 use Rattle.run_laws.proofs.Jobs.{Rises-jobs, length-change_job}
 use Rattle.run_laws.proofs.Dropped.{drop_one, dropped, dropped-is}
 use Rattle.run_laws.proofs.Asked.{asked_jobs, writer_job, asked-append, asked-front, asked-length}
 use Rattle.job_table.specs.Journal.{Journaled}
-use Rattle.job_table.specs.LiveJobs.{LiveJobs, without, ready_of_writer, held_of, AreNumbered}
-use Rattle.job_table.proofs.AllJobs.{held_of-push, held_of-gone, ready_of_writer-held_of, change_job-none, numbered_push, numbered_change}
+use Rattle.job_table.specs.LiveJobs.{LiveJobs, without, ready_of_writer, held_of}
+use Rattle.job_table.proofs.AllJobs.{held_of-push, held_of-gone, ready_of_writer-held_of, change_job-none}
 use Rattle.core_writes.specs.Turn.{with_turn, IsTurn, Turns}
 use Rattle.core_writes.specs.Asked.{with_job, with_jobs, told_behind, abort_if, AsksAll, GivesUp}
 use Rattle.core_writes.specs.Dropped.{without_all, AreFirsts, DropsReady}
@@ -47,11 +47,7 @@ numbers-asked line (asking ∷ askings) all numbers =
     let more : List Job = all ++ one ∷ [] in
     let size : length more ≡ length all + 1 = length-append all (one ∷ []) in
     let stand : more ++ asked_jobs (length more + 1) line askings ≡ all ++ asked_jobs (length all + 1) line (asking ∷ askings) = append_assoc all (one ∷ []) (asked_jobs (length more + 1) line askings) ∙ ap (λ n. all ++ one ∷ asked_jobs (n + 1) line askings) size in
-    subst (AreNumbered 1) stand (numbers-asked line askings more (numbered_push 1 all one numbers (omega arith)))
-
-in-order : (first : ℕ) (jobs : List Job) → AreNumbered first jobs → AreInOrder first jobs
-in-order first [] numbers = tt
-in-order first (job ∷ jobs) numbers = (numbers.0, in-order (first + 1) jobs numbers.1)
+    subst (AreNumbered 1) stand (numbers-asked line askings more (numbered-push 1 all one (omega arith) numbers))
 
 -- dropping the first ready one again and again drops all
 
@@ -82,13 +78,13 @@ drops-all line first [] jobs numbers firsts none = sym none ∙ ready_of_writer-
 drops-all line first (drop ∷ drops) jobs numbers firsts none =
     let stands : slice_get (ready_for line jobs) 0 ≡ Some drop = ap (λ t. slice_get t 0) (sym (ready_of_writer-held_of line jobs)) ∙ firsts.0 in
     let left : without drop (held_of jobs) ≡ held_of (change_job drop Gone jobs) = sym (held_of-gone drop first jobs numbers) in
-    ap (λ t. drop ∷ t) (drops-all line first drops (change_job drop Gone jobs) (numbered_change drop first Gone jobs numbers) (subst (λ t. AreFirsts line t drops) left firsts.1) (subst (λ t. ready_of_writer line (without_all drops t) ≡ []) left none))
+    ap (λ t. drop ∷ t) (drops-all line first drops (change_job drop Gone jobs) (numbered-change first drop Gone jobs numbers) (subst (λ t. AreFirsts line t drops) left firsts.1) (subst (λ t. ready_of_writer line (without_all drops t) ≡ []) left none))
     ∙ sym (gone-first line drop first jobs numbers stands)
 
 held-dropped : (first : ℕ) (drops : List ℕ) (jobs : List Job) → AreNumbered first jobs → without_all drops (held_of jobs) ≡ held_of (fold drop_one jobs drops)
 held-dropped first [] jobs numbers = refl
 held-dropped first (drop ∷ drops) jobs numbers =
-    ap (without_all drops) (sym (held_of-gone drop first jobs numbers)) ∙ held-dropped first drops (change_job drop Gone jobs) (numbered_change drop first Gone jobs numbers)
+    ap (without_all drops) (sym (held_of-gone drop first jobs numbers)) ∙ held-dropped first drops (change_job drop Gone jobs) (numbered-change first drop Gone jobs numbers)
 
 length-dropped : (drops : List ℕ) (jobs : List Job) → length (fold drop_one jobs drops) ≡ length jobs
 length-dropped [] jobs = refl
@@ -97,9 +93,9 @@ length-dropped (drop ∷ drops) jobs = length-dropped drops (change_job drop Gon
 -- the jobs behind stay
 drops-behind : (failed : Bool) (line : ℕ) (drops : List ℕ) (jobs behind : List Job) → AreNumbered 1 jobs → AreNumbered 1 (jobs ++ behind) → drops ≡ (if failed then ready_for line jobs else []) → fold drop_one (jobs ++ behind) drops ≡ fold drop_one jobs drops ++ behind
 drops-behind true line drops jobs behind numbers all is =
-    let alone : fold drop_one (jobs ++ []) (ready_for line jobs) ≡ dropped line jobs ++ [] = dropped-is 0 line jobs [] (Rises-jobs 0 (jobs ++ []) (rw append-nil (in-order 1 jobs numbers))) in
+    let alone : fold drop_one (jobs ++ []) (ready_for line jobs) ≡ dropped line jobs ++ [] = dropped-is 0 line jobs [] (Rises-jobs 0 (jobs ++ []) (rw append-nil numbers)) in
     let same : fold drop_one jobs (ready_for line jobs) ≡ dropped line jobs = ap (λ t. fold drop_one t (ready_for line jobs)) (sym (append-nil jobs)) ∙ alone ∙ append-nil (dropped line jobs) in
-    rw is (dropped-is 0 line jobs behind (Rises-jobs 0 (jobs ++ behind) (in-order 1 (jobs ++ behind) all)) ∙ ap (λ t. t ++ behind) (sym same))
+    rw is (dropped-is 0 line jobs behind (Rises-jobs 0 (jobs ++ behind) all) ∙ ap (λ t. t ++ behind) (sym same))
 drops-behind false line drops jobs behind numbers all is = rw is refl
 
 -- an abort is told as one, and no other

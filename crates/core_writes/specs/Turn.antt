@@ -8,9 +8,9 @@ use Rattle.mount_model.specs.declared.event.Owner.TheVariants as owner
 use Rattle.mount_model.specs.Step.{Step, change_last}
 use Rattle.mount_model.specs.Handles.{Writer}
 use Rattle.mount_model.specs.Writers.{answer_to, has_failed}
-use Rattle.mount_model.specs.State.{Job, Gone, change_job, ready_for, calls_in, gives_up, behind_asks, behind_drops, behind_step, askings_of, jobs_of_writer}
+use Rattle.mount_model.specs.State.{Job, Gone, change_job, ready_for, calls_in, gives_up, behind_asks, behind_drops, behind_step, askings_of, jobs_of_writer, AreNumbered}
 use Rattle.mount_model.specs.Run.{numbered, jobs_called}
-use Rattle.job_table.specs.LiveJobs.{LiveJobs, held_of, AreNumbered}
+use Rattle.job_table.specs.LiveJobs.{LiveJobs, held_of}
 
 -- so many drops and asks behind those of a step
 abbrev pub with_turn : List ℕ → List Ask → Step → Step

@@ -6,8 +6,8 @@ ghost use Rattle.dir_reader.specs.Gathered.{found_in, with_children};
 use crate::listed_name::ListedName;
 use bucket_model::PageItem;
 use listing_rules::Listed;
-use mp_rules::{DirEntry, Local, valid_name};
-use mp_types::{Text, behind};
+use mp_rules::{DirEntry, Local};
+use mp_types::{Text, behind, is_name};
 use std::alloc::{AllocError, Global};
 use std::collections::BTreeMap;
 
@@ -34,7 +34,7 @@ fn has_dir(names: &Names, name: &ListedName) -> bool
 fn show(names: &mut Names, name: Text, listed: Listed) -> Result<(), AllocError>
     ensures { OnOk result (found_in names.new ≡ with_entry name listed (found_in names.old)) }
 {
-    if !valid_name(name.as_str()) {
+    if !is_name(name.as_str()) {
         return Ok(());
     }
     let name = ListedName::new(name);

@@ -2,6 +2,7 @@
 use Rattle.std.proofs.Common.{◌≡◌, ◌≢◌, ℕ, Bool, true, false, List, [], ◌∷◌, ◌++◌, Option, Some, None, refl, sym, ap, ◌∙◌, subst, inl, inr, append-nil, append_assoc}
 use Rattle.std.specs.Option.{IfSome, OnSome, option_to_list}
 use Rattle.std.proofs.lemmas.List.Elements.{Contains-append_left, Contains-push, Contains-push_cases}
+use Rattle.mp_types.specs.Count.{risen}
 use Rattle.bucket_model.specs.declared.call.Call.{Call}
 use Rattle.bucket_model.specs.declared.call.Call.TheVariants as call
 use Rattle.bucket_model.specs.declared.call.Call.TheVariants.{Head, Probe, Get, Delete, Put, Create, Part, Complete, Abort}
@@ -14,7 +15,7 @@ use Rattle.bucket_model.specs.declared.history.Name.{Name}
 use Rattle.bucket_model.specs.declared.history.Name.TheVariants as name
 use Rattle.bucket_model.specs.declared.history.Logged.{Logged}
 use Rattle.bucket_model.specs.Along.{Along}
-use Rattle.bucket_model.specs.Answers.{MayBeMade, brief_of, fits, is_answer_of, is_counted, made_by}
+use Rattle.bucket_model.specs.Answers.{MayBeMade, brief_of, entry_after, fits, is_answer_of, is_counted, made_by}
 use Rattle.bucket_model.specs.Bucket.{BucketState, IsComplete, ObjectVersion, Whole, after, upload_at, version_completed, version_made, whole_of}
 use Rattle.bucket_model.specs.History.{History, IsLegalEntry, IsLegalHistory, IsNewUpload, IsOneContent, Makes, MakesWhole, MayAnswer, replay, versions_of}
 use Rattle.mem_store.proofs.Replay.{replay_push, versions_push, legal_push}
@@ -23,8 +24,7 @@ use Rattle.fault_store.specs.declared.faulty.Faulty.{Faulty}
 use Rattle.fault_store.specs.declared.faulty.When.{When}
 use Rattle.fault_store.specs.declared.faulty.When.TheVariants.{Before, After}
 use Rattle.fault_store.specs.Called.{IsCalled}
-use Rattle.fault_store.specs.Counts.{risen}
-use Rattle.fault_store.specs.Entries.{entries_of, entry_after, entry_before, shown}
+use Rattle.fault_store.specs.Entries.{entries_of, entry_before, shown}
 use Rattle.fault_store.specs.Faulty.{Conveys, IsHonest, IsServed, LosesPage, Mirrors, Reaches, Serves, when_at}
 
 -- the last entry of a legal history is legal behind those before it

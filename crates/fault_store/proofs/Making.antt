@@ -4,6 +4,7 @@ use Rattle.std.specs.BTreeMap as tree
 use Rattle.std.specs.Global.{Vec}
 use Rattle.std.specs.List.{AllByRecursion}
 use Rattle.std.proofs.lemmas.List.Elements.{Contains-append_cases}
+use Rattle.mp_types.proofs.Lists.{each-push}
 use Rattle.bucket_model.specs.declared.call.Call.{Call}
 use Rattle.bucket_model.specs.declared.answer.Answer.{Answer}
 use Rattle.bucket_model.specs.declared.answer.Brief.{Brief}
@@ -12,12 +13,12 @@ use Rattle.bucket_model.specs.Answers.{brief_of, is_counted}
 use Rattle.bucket_model.specs.Bucket.{ObjectVersion}
 use Rattle.bucket_model.specs.History.{History, IsChange}
 use Rattle.store_trait.specs.Told.{AddsFor, AddsNone, AreChanges, KeepsVersions, Tells}
+use Rattle.store_trait.proofs.Adds.{none_change, kept_versions}
 use Rattle.fault_store.specs.declared.change.Change.{Change}
 use Rattle.fault_store.specs.declared.change.Change.TheVariants.{Delete, Put}
 use Rattle.fault_store.specs.Called.{IsCalled}
 use Rattle.fault_store.specs.Change.{call_of, calls_of}
 use Rattle.fault_store.specs.Meddled.{IsMade, Makes, calls_in, changes_at}
-use Rattle.fault_store.proofs.Tells.{none_change, kept_versions}
 
 -- changes that are left to be made
 abbrev pub GoesOn : {S : Type 0} → (Call → ℕ → Answer → S → S → Type 0) → List Call → List Call → S → S → Type 0
@@ -34,13 +35,9 @@ is_change : (change : Change) → IsChange (call_of change)
 is_change (Delete key) = tt
 is_change (Put key bytes) = tt
 
-all_push : {X : Type 0} (P : X → Type 0) (xs : List X) (x : X) → AllByRecursion P xs → P x → AllByRecursion P (xs ++ x ∷ [])
-all_push P [] x all here = (here, tt)
-all_push P (y ∷ xs) x all here = (all.0, all_push P xs x all.1 here)
-
 pub are_changes : (changes : List Change) → AllByRecursion IsChange (calls_of changes)
 are_changes [] = tt
-are_changes (change ∷ changes) = all_push IsChange (calls_of changes) (call_of change) (are_changes changes) (is_change change)
+are_changes (change ∷ changes) = each-push IsChange (calls_of changes) (call_of change) (are_changes changes) (is_change change)
 
 are_changes_in : (kept : Option (Vec Change)) → AllByRecursion IsChange (calls_in kept)
 are_changes_in None = tt
@@ -76,7 +73,7 @@ quiet_same is_alone (Some was) = record {
   log = sym (append-nil was.log);
   by_others = none_change;
   alone = λ _. refl;
-  versions = kept_versions was;
+  versions = kept_versions was.versions;
 }
 
 both_none : (a b : List Logged) → a ≡ [] → b ≡ [] → a ++ b ≡ []

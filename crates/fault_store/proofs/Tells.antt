@@ -1,5 +1,6 @@
 -- What one call adds to what a store with listed faults tells and counts.
 use Rattle.std.proofs.Common.{◌≡◌, ℕ, ◌<◌, ◌≤◌, Bool, true, false, List, [], ◌∷◌, ◌++◌, length, Option, Some, None, refl, sym, ap, ◌∙◌, inl, inr, append-nil, arith, length-append}
+use Rattle.mp_types.specs.Count.{risen}
 use Rattle.bucket_model.specs.declared.call.Call.{Call}
 use Rattle.bucket_model.specs.declared.answer.Answer.{Answer}
 use Rattle.bucket_model.specs.declared.answer.Answer.TheVariants as said
@@ -8,54 +9,30 @@ use Rattle.bucket_model.specs.declared.answer.Brief.TheVariants as brief
 use Rattle.bucket_model.specs.declared.answer.Brief.TheVariants.{Fault, NoMemory}
 use Rattle.bucket_model.specs.declared.page.Page.{Page}
 use Rattle.bucket_model.specs.declared.history.Logged.{Logged}
-use Rattle.bucket_model.specs.Answers.{brief_of, fits, is_counted}
+use Rattle.bucket_model.specs.Answers.{brief_of, entry_after, fits, is_counted}
 use Rattle.bucket_model.specs.History.{History}
-use Rattle.store_trait.specs.Told.{Adds, AddsEntry, AddsFor, AddsNone, AreChanges, KeepsVersions, Tells}
+use Rattle.store_trait.specs.Told.{Adds, AddsEntry, AddsFor, AddsNone, KeepsVersions, Tells}
+use Rattle.store_trait.proofs.Adds.{adds_own, adds_nothing, kept_versions}
 use Rattle.fault_store.specs.declared.faulty.Faulty.{Faulty}
 use Rattle.fault_store.specs.declared.faulty.When.{When}
 use Rattle.fault_store.specs.declared.faulty.When.TheVariants.{Before, After}
 use Rattle.fault_store.specs.Called.{IsCalled}
-use Rattle.fault_store.specs.Counts.{risen}
-use Rattle.fault_store.specs.Entries.{entries_of, entry_after, entry_before, shown}
+use Rattle.fault_store.specs.Entries.{entries_of, entry_before, shown}
 use Rattle.fault_store.specs.Faulty.{Conveys, IsServed, Reaches, Serves, told_by, told_with, when_at}
 
-pub none_change : AreChanges []
-none_change = λ logged among. absurd (omega (arith, among.1))
-
 -- an entry of the log's own
-adds_own : (is_alone : Type 0) (asked : Call) (answer : Brief) (own : Logged) (old new : List Logged) (was now : History) → is_counted answer ≡ true → own.entry.call ≡ asked → own.entry.answer ≡ answer
+adds_counted : (is_alone : Type 0) (asked : Call) (answer : Brief) (own : Logged) (old new : List Logged) (was now : History) → is_counted answer ≡ true → own.entry.call ≡ asked → own.entry.answer ≡ answer
     → new ≡ old ++ own ∷ [] → KeepsVersions was.versions now.versions → Adds is_alone asked (length old) answer (told_with old was) (told_with new now)
-adds_own is_alone asked answer own old new was now counted asks answers is versions =
-    let entry : AddsEntry is_alone asked (length old) answer (told_with old was) (told_with new now) = record {
-      earlier = [];
-      own = own;
-      later = [];
-      log = is;
-      at_place = omega arith;
-      asks = asks;
-      answers = answers;
-      by_others_before = none_change;
-      by_others_behind = none_change;
-      alone = λ _. (refl, refl);
-      versions = versions;
-    } in
+adds_counted is_alone asked answer own old new was now counted asks answers is versions =
+    let entry : AddsEntry is_alone asked (length old) answer (told_with old was) (told_with new now) = adds_own is_alone asked (length old) answer own (told_with old was) (told_with new now) asks answers refl is versions in
     rw counted entry
 
 -- no entry after want of memory
 adds_none : (is_alone : Type 0) (asked : Call) (place : ℕ) (answer : Brief) (old new : List Logged) (was now : History) → is_counted answer ≡ false → new ≡ old → KeepsVersions was.versions now.versions
     → Adds is_alone asked place answer (told_with old was) (told_with new now)
 adds_none is_alone asked place answer old new was now counted is versions =
-    let none : AddsNone is_alone (told_with old was) (told_with new now) = record {
-      others = [];
-      log = is ∙ sym (append-nil old);
-      by_others = none_change;
-      alone = λ _. refl;
-      versions = versions;
-    } in
+    let none : AddsNone is_alone (told_with old was) (told_with new now) = adds_nothing is_alone (told_with old was) (told_with new now) is versions in
     rw counted none
-
-pub kept_versions : (was : History) → KeepsVersions was.versions was.versions
-kept_versions was = ([], sym (append-nil was.versions))
 
 -- the inner store loses no version
 versions_for : (counted : Bool) (is_alone : Type 0) (asked : Call) (place : ℕ) (answer : Brief) (was now : History) → AddsFor counted is_alone asked place answer was now → KeepsVersions was.versions now.versions
@@ -65,7 +42,7 @@ versions_for false is_alone asked place answer was now adds = adds.versions
 -- the inner store isn't called, and an entry is added
 tells_before : (is_alone : Type 0) (asked : Call) (old new : List Logged) (was : Option History) → new ≡ old ++ entry_before asked ∷ [] → Tells is_alone asked (length old) Fault (told_by old was) (told_by new was)
 tells_before is_alone asked old new None is = tt
-tells_before is_alone asked old new (Some was) is = adds_own is_alone asked Fault (entry_before asked) old new was was refl refl refl is (kept_versions was)
+tells_before is_alone asked old new (Some was) is = adds_counted is_alone asked Fault (entry_before asked) old new was was refl refl refl is (kept_versions was.versions)
 
 -- the inner store answers a page, and no entry is added
 tells_lost : (is_alone : Type 0) (asked : Call) (inner_place place : ℕ) (page : Page) (old new : List Logged) (was now : Option History) → Tells is_alone asked inner_place (brief.Page page) was now → new ≡ old
@@ -77,12 +54,12 @@ tells_lost is_alone asked inner_place place page old new (Some was) (Some now) t
 
 tells_short : (is_alone : Type 0) (asked : Call) (place : ℕ) (old new : List Logged) (was : Option History) → new ≡ old → Tells is_alone asked place NoMemory (told_by old was) (told_by new was)
 tells_short is_alone asked place old new None is = tt
-tells_short is_alone asked place old new (Some was) is = adds_none is_alone asked place NoMemory old new was was refl is (kept_versions was)
+tells_short is_alone asked place old new (Some was) is = adds_none is_alone asked place NoMemory old new was was refl is (kept_versions was.versions)
 
 reached_for : (counted hides : Bool) (is_alone : Type 0) (asked : Call) (answer : Answer) (old new : List Logged) (was now : History) → is_counted (brief_of answer) ≡ counted → KeepsVersions was.versions now.versions
     → new ≡ old ++ entries_of counted hides asked answer → Adds is_alone asked (length old) (brief_of (shown counted hides answer)) (told_with old was) (told_with new now)
-reached_for true true is_alone asked answer old new was now counted versions is = adds_own is_alone asked Fault (entry_after asked Fault (brief_of answer)) old new was now refl refl refl is versions
-reached_for true false is_alone asked answer old new was now counted versions is = adds_own is_alone asked (brief_of answer) (entry_after asked (brief_of answer) (brief_of answer)) old new was now counted refl refl is versions
+reached_for true true is_alone asked answer old new was now counted versions is = adds_counted is_alone asked Fault (entry_after asked Fault (brief_of answer)) old new was now refl refl refl is versions
+reached_for true false is_alone asked answer old new was now counted versions is = adds_counted is_alone asked (brief_of answer) (entry_after asked (brief_of answer) (brief_of answer)) old new was now counted refl refl is versions
 reached_for false hides is_alone asked answer old new was now counted versions is = adds_none is_alone asked (length old) (brief_of answer) old new was now counted (is ∙ append-nil old) versions
 
 tells_reached : (hides : Bool) (is_alone : Type 0) (asked : Call) (place : ℕ) (answer : Answer) (old new : List Logged) (was now : Option History) → Tells is_alone asked place (brief_of answer) was now

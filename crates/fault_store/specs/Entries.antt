@@ -3,19 +3,13 @@ use Rattle.std.specs.Prelude.{Bool, true, false, List, [], ◌∷◌, None}
 use Rattle.bucket_model.specs.declared.call.Call.{Call}
 use Rattle.bucket_model.specs.declared.answer.Answer.{Answer}
 use Rattle.bucket_model.specs.declared.answer.Answer.TheVariants as answer
-use Rattle.bucket_model.specs.declared.answer.Brief.{Brief}
 use Rattle.bucket_model.specs.declared.answer.Brief.TheVariants.{Fault}
-use Rattle.bucket_model.specs.declared.history.Name.TheVariants as name
 use Rattle.bucket_model.specs.declared.history.Logged.{Logged}
-use Rattle.bucket_model.specs.Answers.{brief_of, made_by}
+use Rattle.bucket_model.specs.Answers.{brief_of, entry_after}
 
 -- a call that took no effect
 abbrev pub entry_before : Call → Logged
 entry_before asked = record { entry = record { call = asked; answer = Fault; took = false }; made = None }
-
--- a call that took effect with the second answer, where its caller was told the first
-abbrev pub entry_after : Call → Brief → Brief → Logged
-entry_after asked told said = record { entry = record { call = asked; answer = told; took = true }; made = made_by said }
 
 -- what the caller is told: a fault where that hides an answer which has an entry
 abbrev pub shown : Bool → Bool → Answer → Answer

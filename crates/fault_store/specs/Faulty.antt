@@ -3,6 +3,7 @@ use Rattle.std.specs.Prelude.{◌≡◌, ℕ, Bool, true, false, List, [], ◌�
 use Rattle.std.specs.BTreeMap as tree
 use Rattle.std.specs.BTreeMap.{BTreeMap}
 use Rattle.std.specs.Ordering.{nat_cmp}
+use Rattle.mp_types.specs.Count.{risen}
 use Rattle.bucket_model.specs.declared.call.Call.{Call}
 use Rattle.bucket_model.specs.declared.answer.Answer.{Answer}
 use Rattle.bucket_model.specs.declared.answer.Answer.TheVariants.{Fault, NoMemory}
@@ -14,7 +15,6 @@ use Rattle.bucket_model.specs.History.{History, IsLegalHistory, IsNewUpload, rep
 use Rattle.fault_store.specs.declared.faulty.Faulty.{Faulty}
 use Rattle.fault_store.specs.declared.faulty.When.{When}
 use Rattle.fault_store.specs.declared.faulty.When.TheVariants.{Before, After}
-use Rattle.fault_store.specs.Counts.{risen}
 use Rattle.fault_store.specs.Entries.{entry_before, entries_of, shown}
 
 -- when the call with this number fails, if it does

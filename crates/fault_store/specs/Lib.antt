@@ -1,6 +1,5 @@
 pub mod Called
 pub mod Change
-pub mod Counts
 pub mod Entries
 pub mod Faulty
 pub mod FaultyLaws

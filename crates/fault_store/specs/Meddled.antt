@@ -4,12 +4,12 @@ use Rattle.std.specs.BTreeMap as tree
 use Rattle.std.specs.BTreeMap.{BTreeMap}
 use Rattle.std.specs.Global.{Vec}
 use Rattle.std.specs.Ordering.{nat_cmp}
+use Rattle.mp_types.specs.Count.{risen}
 use Rattle.bucket_model.specs.declared.call.Call.{Call}
 use Rattle.bucket_model.specs.declared.answer.Answer.{Answer}
 use Rattle.fault_store.specs.declared.change.Change.{Change}
 use Rattle.fault_store.specs.declared.meddled.Meddled.{Meddled}
 use Rattle.fault_store.specs.Change.{calls_of}
-use Rattle.fault_store.specs.Counts.{risen}
 
 -- the changes that are listed for the number, in order
 abbrev pub changes_for : ℕ → List (ℕ × Call) → List Call

@@ -1,11 +1,10 @@
-ghost use Rattle.std.specs.Prelude.{◌≡◌, ℕ, ◌<◌, ◌≤◌, ◌+◌, ◌⊎◌, [], length, IfSome, IfOk, OnSome, vec_len, vec_capacity};
-ghost use Rattle.bucket_model.specs.Answers.{MayBeMade};
+ghost use Rattle.std.specs.Prelude.{◌≡◌, ℕ, ◌<◌, ◌≤◌, ◌+◌, ◌⊎◌, [], length, IfSome, IfOk, OnSome, true, vec_len, vec_capacity};
+ghost use Rattle.bucket_model.specs.Answers.{MayBeMade, brief_of, is_counted};
 ghost use Rattle.fault_store.specs.Called.{IsCalled};
 ghost use Rattle.fault_store.specs.Faulty.{Conveys, FailsBefore, IsHonest, IsServed, KeepsNumbers, RunsShort, Starts, first_listed, told_by, when_at};
 ghost use Rattle.fault_store.specs.FaultyLaws.{position_is, honest_is_legal};
 
-use crate::log::{add_entry, is_counted, name_made};
-use bucket_model::{Answer, Brief, Call, Logged};
+use bucket_model::{Answer, Brief, Call, HEntry, Logged, add_entry};
 use std::alloc::{AllocError, Global};
 use std::collections::BTreeMap;
 use store_trait::Store;
@@ -40,6 +39,27 @@ fn table(alloc: Global, mut faults: Vec<(u64, When)>) -> Result<BTreeMap<u64, Wh
         listed.insert(number, when)?;
     }
     Ok(listed)
+}
+
+// Whether an answer has an entry.
+fn is_counted(answer: &Answer) -> bool
+    ensures { result ≡ is_counted (brief_of answer.now) }
+{
+    match answer {
+        Answer::NoMemory => false,
+        _ => true,
+    }
+}
+
+// A call that took effect, with what its caller is told.
+fn taken(call: Call, answer: Brief) -> HEntry
+    ensures { result ≡ record { call = call; answer = answer; took = true } }
+{
+    HEntry {
+        call,
+        answer,
+        took: true,
+    }
 }
 
 impl<S: Store + Drop> Faulty<S> {
@@ -77,7 +97,12 @@ impl<S: Store> Faulty<S> {
         ensures grows { self.old.failed ≤ self.new.failed }
     {
         self.failed = self.failed.saturating_add(1);
-        add_entry(&mut self.log, call, Brief::Fault, false, None);
+        let entry = HEntry {
+            call,
+            answer: Brief::Fault,
+            took: false,
+        };
+        add_entry(&mut self.log, entry, None);
         Answer::Fault
     }
 
@@ -98,19 +123,19 @@ impl<S: Store> Faulty<S> {
         if !is_counted(&said) {
             return said;
         }
-        let made = name_made(&said);
         if hides {
             self.failed = self.failed.saturating_add(1);
-            add_entry(&mut self.log, asked, Brief::Fault, true, made);
-            Answer::Fault
-        } else {
-            match said.brief() {
-                Ok(brief) => {
-                    add_entry(&mut self.log, asked, brief, true, made);
-                    said
-                }
-                Err(_) => Answer::NoMemory,
+            let (hidden, _) = said.split();
+            add_entry(&mut self.log, taken(asked, Brief::Fault), hidden.made());
+            return Answer::Fault;
+        }
+        match said.brief() {
+            Ok(answer) => {
+                let made = answer.made();
+                add_entry(&mut self.log, taken(asked, answer), made);
+                said
             }
+            Err(_) => Answer::NoMemory,
         }
     }
 

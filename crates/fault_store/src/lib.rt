@@ -4,7 +4,6 @@
 
 mod change;
 mod faulty;
-mod log;
 mod meddled;
 #[cfg(test)]
 mod tests;

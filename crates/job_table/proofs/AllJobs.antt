@@ -1,15 +1,15 @@
 -- The jobs that are ready or out, against all jobs of a run.
-use Rattle.std.proofs.Common.{◌≡◌, ℕ, ◌+◌, ◌<◌, inl, inr, ◌↔◌, Bool, true, false, List, [], ◌∷◌, ◌++◌, length, Some, None, refl, sym, ap, ◌∙◌, arith, eq-eqb}
+use Rattle.std.proofs.Common.{◌≡◌, ℕ, ◌+◌, ◌<◌, inl, inr, ◌↔◌, Bool, true, false, List, [], ◌∷◌, ◌++◌, Some, None, refl, sym, ap, ◌∙◌, arith, eq-eqb}
 use Rattle.std.proofs.lemmas.Grind.{flat_map-append}
 use Rattle.std.proofs.lemmas.Map.Keys.{any_passes_from_place}
 use Rattle.std.specs.List.{AllByRecursion, slice_get}
-use Rattle.std.specs.Prelude.{◌==◌, if◌then◌else◌, length}
+use Rattle.std.specs.Prelude.{◌==◌}
 use Rattle.bucket_model.specs.declared.call.Call.{Call}
 use Rattle.mount_model.specs.declared.event.Owner.{Owner}
 use Rattle.mount_model.specs.declared.event.Owner.TheVariants as owner
-use Rattle.mount_model.specs.State.{Job, JobPhase, Ready, Out, Gone, job_at, in_phase, change_job, is_ready_for, ready_for}
+use Rattle.mount_model.specs.State.{Job, JobPhase, Ready, Out, Gone, job_at, in_phase, change_job, is_ready_for, ready_for, AreNumbered}
 use Rattle.mount_model.specs.Run.{ready, is_among}
-use Rattle.job_table.specs.LiveJobs.{Held, IsReadyIn, IsOutIn, held_at, with_taken, without, ready_numbers, is_of_writer, ready_of_writer, held_as, held_when, held_of, AreNumbered, purpose_of}
+use Rattle.job_table.specs.LiveJobs.{Held, IsReadyIn, IsOutIn, held_at, with_taken, without, ready_numbers, is_of_writer, ready_of_writer, held_as, held_when, held_of, purpose_of}
 use Rattle.job_table.proofs.Rising.{IsSame, IsOther, same_or_other, is_other}
 
 -- jobs with new ones behind
@@ -273,17 +273,3 @@ none_held (job ∷ jobs) gone = rw gone.0 (none_held jobs gone.1)
 
 pub held_of-empty : (jobs : List Job) → (held_of jobs ≡ []) ↔ AllByRecursion (λ (job : Job). job.phase ≡ Gone) jobs
 held_of-empty jobs = (all_gone jobs, none_held jobs)
-
--- the numbers stay in order
-
-pub numbered_push : (first : ℕ) (jobs : List Job) (job : Job) → AreNumbered first jobs → job.number ≡ first + length jobs → AreNumbered first (jobs ++ job ∷ [])
-numbered_push first [] job numbered next = (omega (arith, next), tt)
-numbered_push first (head ∷ jobs) job numbered next = (numbered.0, numbered_push (first + 1) jobs job numbered.1 (omega (arith, next)))
-
-number_stays : (phase : JobPhase) (job : Job) (b : Bool) → (if b then in_phase phase job else job).number ≡ job.number
-number_stays phase job true = refl
-number_stays phase job false = refl
-
-pub numbered_change : (n first : ℕ) (phase : JobPhase) (jobs : List Job) → AreNumbered first jobs → AreNumbered first (change_job n phase jobs)
-numbered_change n first phase [] numbered = numbered
-numbered_change n first phase (job ∷ jobs) numbered = (number_stays phase job (job.number == n) ∙ numbered.0, numbered_change n (first + 1) phase jobs numbered.1)

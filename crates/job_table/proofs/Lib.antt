@@ -5,4 +5,3 @@ pub mod Numbers
 pub mod Places
 pub mod ReadySets
 pub mod Rising
-pub mod Steps

@@ -1,5 +1,5 @@
 -- The jobs that are ready or out.
-use Rattle.std.specs.Prelude.{◌≡◌, ℕ, ◌+◌, List, [], ◌∷◌, Bool, false, ◌&&◌, not, map, find, filter, flat_map, ◌==◌, if◌then◌else◌, Option, Some, None, is_some}
+use Rattle.std.specs.Prelude.{◌≡◌, ℕ, List, [], ◌∷◌, Bool, false, ◌&&◌, not, map, find, filter, flat_map, ◌==◌, if◌then◌else◌, Option, Some, None, is_some}
 use Rattle.mp_rules.specs.declared.facts.Question.TheVariants as question
 use Rattle.bucket_model.specs.declared.call.Call.{Call}
 use Rattle.bucket_model.specs.declared.call.Call.TheVariants as call
@@ -94,8 +94,3 @@ held_when Gone job = []
 -- what stands of all jobs of a run
 abbrev pub held_of : List Job → List Held
 held_of jobs = flat_map (λ (job : Job). held_when job.phase job) jobs
-
--- the jobs have the numbers from this one on, one after the other
-abbrev pub AreNumbered : ℕ → List Job → Type 0
-AreNumbered first [] = Unit {0}
-AreNumbered first (job ∷ jobs) = (job.number ≡ first) × AreNumbered (first + 1) jobs

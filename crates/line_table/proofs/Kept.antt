@@ -25,14 +25,14 @@ set_phase n f lines i old new rising at read line phase =
     let is : new ≡ rephrase f old = standing_is new.line old.line new.phase (f old.phase) line phase in
     ap (set lines i) (is ∙ ap (rephrase f) same) ∙ sym (change_at number_of 0 n (rephrase f) lines (rising_lines 0 lines rising) i at.standing at.stands at.has_number)
 
-change_nothing : (n : ℕ) (lines : List Standing) → change_line n (λ p. p) lines ≡ lines
-change_nothing n [] = refl
-change_nothing n (s ∷ lines) =
-    let below = ap (λ xs. s ∷ xs) (change_nothing n lines) in
+pub change_line-same : (n : ℕ) (lines : List Standing) → change_line n (λ p. p) lines ≡ lines
+change_line-same n [] = refl
+change_line-same n (s ∷ lines) =
+    let below = ap (λ xs. s ∷ xs) (change_line-same n lines) in
     change_cases (λ xs. xs ≡ s ∷ lines) n (λ p. p) s lines below below
 
 pub set_nothing : (n : ℕ) (lines : List Standing) (i : ℕ) (old new : Standing) → AreRising 0 (script_of lines) → StandsAt n lines i → old ≡ get_or lines i old → new.line ≡ old.line → new.phase ≡ old.phase → set lines i new ≡ lines
-set_nothing n lines i old new rising at read line phase = set_phase n (λ p. p) lines i old new rising at read line phase ∙ change_nothing n lines
+set_nothing n lines i old new rising at read line phase = set_phase n (λ p. p) lines i old new rising at read line phase ∙ change_line-same n lines
 
 pub find_place : (n : ℕ) (lines : List Standing) (i : ℕ) (s : Standing) → AreRising 0 (script_of lines) → StandsAt n lines i → s ≡ get_or lines i s → line_at n lines ≡ Some s
 find_place n lines i s rising at read =

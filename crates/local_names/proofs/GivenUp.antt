@@ -5,9 +5,9 @@ use Rattle.std.specs.Cmp.Lexicographic.{slice_cmp, nat_list_cmp_total, nat_list_
 use Rattle.std.specs.FinSet as set
 use Rattle.std.specs.Ordering.{nat_cmp}
 use Rattle.std.specs.Str.{bytes_eq}
-use Rattle.mp_rules.specs.Keys.{is_below}
+use Rattle.mp_rules.specs.Keys.{is_below, is_under}
 use Rattle.mp_rules.specs.Local.{Keys, LocalNames, without_dirs_above}
-use Rattle.local_names.specs.Under.{is_under, IsParent}
+use Rattle.local_names.specs.Under.{IsParent}
 use Rattle.local_names.specs.Names.{without_dir}
 use Rattle.local_names.proofs.Under.{both_false}
 use Rattle.local_names.proofs.Counts.{retained}

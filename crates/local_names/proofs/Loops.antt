@@ -3,9 +3,10 @@ use Rattle.std.proofs.Common.{◌≡◌, ℕ, ◌+◌, ◌<◌, ◌≤◌, inl, 
 use Rattle.std.specs.BTreeMap.{BTreeMap, get_by_text}
 use Rattle.std.specs.Cmp.Lexicographic.{bytes_decides, nat_list_eq_equiv}
 use Rattle.std.specs.Str.{bytes_eq}
+use Rattle.mp_rules.specs.Keys.{is_under}
 use Rattle.local_names.specs.declared.nodes.Node.{Node}
 use Rattle.local_names.specs.Nodes.{kept, has_node, node_in, kind_in, count_in}
-use Rattle.local_names.specs.Under.{is_under, one, IsParent}
+use Rattle.local_names.specs.Under.{one, IsParent}
 use Rattle.local_names.proofs.Under.{by_parent}
 use Rattle.local_names.proofs.Tables.{node_set, has_elsewhere}
 

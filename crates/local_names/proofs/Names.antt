@@ -16,12 +16,14 @@ use Rattle.std.specs.Map.{lookup}
 use Rattle.std.specs.Ordering.{nat_cmp, is_eq, eq_by_cmp}
 use Rattle.std.specs.Prelude.{nat_lt, if◌then◌else◌}
 use Rattle.std.specs.Str.{bytes_eq}
+use Rattle.mp_types.proofs.Texts.{same_text}
 use Rattle.mp_rules.specs.declared.entry.Local.{Local}
 use Rattle.mp_rules.specs.declared.entry.Local.TheVariants as local
 use Rattle.mp_rules.specs.Local.{Keys, LocalNames, with_file, without_name, without_file, has_name_below, file_of, local_at}
+use Rattle.mp_rules.specs.Keys.{is_under}
 use Rattle.local_names.specs.declared.nodes.Node.{Node}
 use Rattle.local_names.specs.Nodes.{bare, is_none, is_dir, size_of, is_file, node_in, kind_in, count_in}
-use Rattle.local_names.specs.Under.{is_under, one}
+use Rattle.local_names.specs.Under.{one}
 use Rattle.local_names.specs.Names.{Sizes, keys_in, count_under, count_below, is_name, with_name, without_dir}
 use Rattle.local_names.specs.Kept.{dirs_of, with_size, sizes_of, names_in, IsKept}
 use Rattle.local_names.proofs.Counts.{remove_none, count-empty, count_more, count_less, count_insert_most, count_remove_most, any_counts}
@@ -34,9 +36,6 @@ same_keys = set.same_set nat_list_cmp_total distinct
 
 same_sizes : (m n : Sizes) → ((q : List ℕ) → map.get m q ≡ map.get n q) → m ≡ n
 same_sizes = map.same_map nat_list_cmp_total distinct
-
-same_key : (q key : List ℕ) → eq_by_cmp (slice_cmp nat_cmp) q key ≡ true → q ≡ key
-same_key q key is = (bytes_decides q key).0 (sym (is_eq-slice_cmp q key) ∙ is)
 
 -- the keys of files
 
@@ -72,7 +71,7 @@ either false c same = refl
 inserted_again : (s : Keys) (key : List ℕ) → set.contains s key ≡ true → set.insert s key ≡ s
 inserted_again s key some = same_keys _ _ (λ q.
     set.contains-insert nat_list_cmp_total s key q
-    ∙ either (eq_by_cmp (slice_cmp nat_cmp) q key) (set.contains s q) (λ is. ap (λ (k : List ℕ). set.contains s k) (same_key q key is) ∙ some))
+    ∙ either (eq_by_cmp (slice_cmp nat_cmp) q key) (set.contains s q) (λ is. ap (λ (k : List ℕ). set.contains s k) (same_text q key is) ∙ some))
 
 -- another size changes no key
 keys_stay : (m : Sizes) (key : List ℕ) (size : ℕ) → map.contains_key m key ≡ true → keys_in (map.insert m key size) ≡ keys_in m
@@ -270,7 +269,7 @@ none_left false o none = refl
 without_absent_file : (m : Sizes) (key : List ℕ) → map.contains_key m key ≡ false → map.remove m key ≡ m
 without_absent_file m key none = same_sizes _ _ (λ q.
     map.get-remove nat_list_cmp_total m key q
-    ∙ none_left (eq_by_cmp (slice_cmp nat_cmp) q key) (map.get m q) (λ is. ap (λ (k : List ℕ). map.contains_key m k) (same_key q key is) ∙ none))
+    ∙ none_left (eq_by_cmp (slice_cmp nat_cmp) q key) (map.get m q) (λ is. ap (λ (k : List ℕ). map.contains_key m k) (same_text q key is) ∙ none))
 
 under_less : (key q : List ℕ) (s : Keys) → set.contains s key ≡ true → count_under q (set.remove s key) + one (is_under key q) ≡ count_under q s
 under_less key q s member = count_less nat_list_cmp_total distinct (λ name. is_under name q) s key member

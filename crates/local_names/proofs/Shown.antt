@@ -24,6 +24,7 @@ use Rattle.local_names.specs.Kept.{names_in, IsKept}
 use Rattle.local_names.proofs.Directory.{child_found, cmp_behind}
 use Rattle.local_names.proofs.Names.{kept_local}
 use Rattle.mp_types.proofs.Prefixes.{split_at}
+use Rattle.mp_types.proofs.Lists.{slice_get-seam}
 
 shown_bare : (node : Node) → is_bare node ≡ false → is_none (shown node) ≡ false
 shown_bare node kept = by_count (nat_eq node.below 0) kept
@@ -73,10 +74,6 @@ all_from : {X : Type 0} (P : X → Type 0) (xs : List X) → AllByRecursion P xs
 all_from P [] all k d less = absurd (omega (arith, less))
 all_from P (x ∷ xs) all zero d less = all.0
 all_from P (x ∷ xs) all (suc k) d less = all_from P xs all.1 k d (omega (arith, less))
-
-slice_get_at : {X : Type 0} (xs ys : List X) (x : X) → slice_get (xs ++ x ∷ ys) (length xs) ≡ Some x
-slice_get_at [] ys x = refl
-slice_get_at (y ∷ xs) ys x = slice_get_at xs ys x
 
 -- what is read of an entry that gives a child
 record GivesChild {Y : Type 0} (prefix : List ℕ) (e : String Y × Node) (child : List ℕ × Local) : Type 0 where
@@ -152,7 +149,7 @@ module _ {Y : Type 0} (prefix : List ℕ) where
 all_found : {Y : Type 0} (nodes : BTreeMap (String Y) Node) → IsStrictlySortedBy string_cmp (keys_of nodes.entries) → (passed es : List (String Y × Node)) → nodes.entries ≡ passed ++ es → AllByRecursion (λ e. get_by_text nodes (string_bytes e.0) ≡ Some e.1) es
 all_found nodes sorted passed [] is = tt
 all_found nodes sorted passed (e ∷ es) is = (
-  btree_map_get_place string_cmp_total nodes (length passed) e.0 e.1 sorted (ap (λ (xs : List _). slice_get xs (length passed)) is ∙ slice_get_at passed es e),
+  btree_map_get_place string_cmp_total nodes (length passed) e.0 e.1 sorted (ap (λ (xs : List _). slice_get xs (length passed)) is ∙ slice_get-seam passed es e),
   all_found nodes sorted (passed ++ e ∷ []) es (is ∙ sym (append_assoc passed (e ∷ []) es)),
 )
 

@@ -8,7 +8,8 @@ use Rattle.std.specs.Prelude.{nat_eq}
 use Rattle.std.specs.Str.{bytes_eq}
 use Rattle.std.specs.Str.Pattern.{RFindsChar}
 use Rattle.mp_types.specs.Path.{slash}
-use Rattle.local_names.specs.Under.{is_under, IsParent}
+use Rattle.mp_rules.specs.Keys.{is_under}
+use Rattle.local_names.specs.Under.{IsParent}
 
 abbrev HasNoSlash : List ℕ → Type 0
 HasNoSlash [] = Unit {0}

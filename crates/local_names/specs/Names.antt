@@ -7,7 +7,7 @@ use Rattle.std.specs.Ordering.{nat_cmp}
 use Rattle.mp_rules.specs.declared.entry.Local.{Local}
 use Rattle.mp_rules.specs.declared.entry.Local.TheVariants as local
 use Rattle.mp_rules.specs.Local.{Keys, LocalNames, with_dir, with_file}
-use Rattle.local_names.specs.Under.{is_under}
+use Rattle.mp_rules.specs.Keys.{is_under}
 
 -- files with how many bytes each has
 abbrev pub Sizes : Type 0

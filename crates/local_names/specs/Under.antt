@@ -1,12 +1,7 @@
 -- Which keys lie above which, with the empty one treated as all others are.
-use Rattle.std.specs.Prelude.{◌≡◌, ◌<◌, ◌||◌, length, ℕ, Bool, List, [], ◌∷◌, ◌++◌, nat_eq, if◌then◌else◌}
-use Rattle.std.specs.List.{starts_with}
+use Rattle.std.specs.Prelude.{◌≡◌, ◌<◌, ◌||◌, length, ℕ, Bool, List, if◌then◌else◌}
 use Rattle.std.specs.Str.{bytes_eq}
-use Rattle.mp_types.specs.Path.{slash}
-
--- the key begins with the other one and a `/`: for one that is not empty, it is below it
-abbrev pub is_under : List ℕ → List ℕ → Bool
-is_under key above = starts_with nat_eq key (above ++ slash ∷ [])
+use Rattle.mp_rules.specs.Keys.{is_under}
 
 -- above the first key stand the second one, and what stands above that
 pub record IsParent (key above : List ℕ) : Type 0 where

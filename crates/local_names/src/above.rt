@@ -1,5 +1,6 @@
 ghost use Rattle.std.specs.Prelude.{◌≡◌, ℕ, List, MatchOption, false};
-ghost use Rattle.local_names.specs.Under.{is_under, IsParent};
+ghost use Rattle.mp_rules.specs.Keys.{is_under};
+ghost use Rattle.local_names.specs.Under.{IsParent};
 
 /// The key without its last `/` and what follows: above a key stand this one and those above it.
 pub fn parent(key: &str) -> Option<&str>

@@ -2,8 +2,9 @@ ghost use Rattle.std.specs.Prelude.{◌≡◌, ◌+◌, ◌≤◌, ◌<◌, ◌^
 ghost use Rattle.std.specs.BTreeMap.{get_by_text};
 ghost use Rattle.std.specs.Str.{bytes_eq};
 ghost use Rattle.mp_rules.specs.declared.entry.Local.TheVariants as local;
+ghost use Rattle.mp_rules.specs.Keys.{is_under};
 ghost use Rattle.local_names.specs.Nodes.{is_bare, kept, node_in, kind_in, count_in, has_node, is_none, is_dir, is_file, shown};
-ghost use Rattle.local_names.specs.Under.{is_under, one};
+ghost use Rattle.local_names.specs.Under.{one};
 
 use crate::above::parent;
 use mp_rules::Local;

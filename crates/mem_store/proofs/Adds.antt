@@ -1,5 +1,5 @@
 -- What one call adds to the told history.
-use Rattle.std.proofs.Common.{◌≡◌, ℕ, List, [], ◌∷◌, ◌++◌, length, refl, sym, ap, ◌∙◌, append-nil, arith}
+use Rattle.std.proofs.Common.{◌≡◌, ℕ, List, [], ◌∷◌, ◌++◌, length, refl, sym, ap, ◌∙◌, append-nil}
 use Rattle.std.specs.Option.{option_to_list}
 use Rattle.bucket_model.specs.declared.answer.Brief.{Brief}
 use Rattle.bucket_model.specs.declared.answer.Brief.TheVariants.{Found, Missing, Yes, No, Page, Bytes, Changed, Gone, Made, Upload, Stored, NoUpload, Fault, NoMemory}
@@ -7,36 +7,18 @@ use Rattle.bucket_model.specs.declared.call.Call.{Call}
 use Rattle.bucket_model.specs.declared.history.Logged.{Logged}
 use Rattle.bucket_model.specs.Bucket.{version_made}
 use Rattle.bucket_model.specs.History.{replay, versions_of}
-use Rattle.store_trait.specs.Told.{Adds, AddsEntry, AddsNone, AreChanges}
+use Rattle.store_trait.specs.Told.{Adds, AddsEntry, AddsNone}
+use Rattle.store_trait.proofs.Adds.{adds_own, adds_nothing}
 use Rattle.mem_store.specs.Served.{entry_of, history_of, IsServed, Serves}
 use Rattle.mem_store.proofs.Replay.{versions_push}
 
-none_change : AreChanges []
-none_change = λ logged among. absurd (omega (arith, among.1))
-
 adds_entry : (call asked : Call) (old new : List Logged) (place : ℕ) (answer : Brief) → call ≡ asked → place ≡ length old → new ≡ old ++ entry_of asked answer ∷ [] → AddsEntry (Unit {0}) call place answer (history_of old) (history_of new)
-adds_entry call asked old new place answer is at_end new_is = record {
-  earlier = [];
-  own = entry_of asked answer;
-  later = [];
-  log = new_is;
-  at_place = omega (arith, at_end);
-  asks = sym is;
-  answers = refl;
-  by_others_before = none_change;
-  by_others_behind = none_change;
-  alone = λ _. (refl, refl);
-  versions = (option_to_list (version_made (replay old) (entry_of asked answer)), ap versions_of new_is ∙ versions_push old (entry_of asked answer));
-}
+adds_entry call asked old new place answer is at_end new_is =
+    adds_own (Unit {0}) call place answer (entry_of asked answer) (history_of old) (history_of new) (sym is) refl at_end new_is
+    (option_to_list (version_made (replay old) (entry_of asked answer)), ap versions_of new_is ∙ versions_push old (entry_of asked answer))
 
 adds_none : (old new : List Logged) → new ≡ old → AddsNone (Unit {0}) (history_of old) (history_of new)
-adds_none old new is = record {
-  others = [];
-  log = is ∙ sym (append-nil old);
-  by_others = none_change;
-  alone = λ _. refl;
-  versions = ([], ap versions_of is ∙ sym (append-nil (versions_of old)));
-}
+adds_none old new is = adds_nothing (Unit {0}) (history_of old) (history_of new) is ([], ap versions_of is ∙ sym (append-nil (versions_of old)))
 
 adds_as_served : (call asked : Call) (old new : List Logged) (place : ℕ) (answer : Brief) → call ≡ asked → place ≡ length old → Serves asked old new answer → Adds (Unit {0}) call place answer (history_of old) (history_of new)
 adds_as_served call asked old new place (Found etag size) is at_end served = adds_entry call asked old new place (Found etag size) is at_end served.1

@@ -11,7 +11,7 @@ use Rattle.bucket_model.specs.declared.history.Object.{Object}
 use Rattle.mem_store.specs.Served.{Finds}
 use Rattle.mp_types.proofs.Prefixes.{between, from_start}
 
-some_from : (o : Option Object) (object : Object) → o ≡ Some object → IsSome o
+pub some_from : (o : Option Object) (object : Object) → o ≡ Some object → IsSome o
 some_from o object is = let P : Option Object → Type 0 = λ x. IsSome x in subst P (sym is) refl
 
 decides : (objects : BTreeMap (List ℕ) Object) (start key : List ℕ) (object : Object)

@@ -2,7 +2,6 @@
 use Rattle.std.proofs.Common.{◌≡◌, ℕ, Bool, true, false, List, [], ◌∷◌, ◌++◌, Option, Some, None, sym, refl, ap, subst}
 use Rattle.std.specs.BTreeMap as tree
 use Rattle.std.specs.Cmp.Lexicographic.{slice_cmp}
-use Rattle.std.specs.Option.{IsSome}
 use Rattle.std.specs.Ordering.{nat_cmp}
 use Rattle.bucket_model.specs.declared.answer.Brief.{Brief}
 use Rattle.bucket_model.specs.declared.call.Call.TheVariants.{Head, Probe}
@@ -12,7 +11,7 @@ use Rattle.bucket_model.specs.Bucket.{IsProbe, head_of, object_at}
 use Rattle.bucket_model.specs.History.{replay}
 use Rattle.mem_store.specs.Kept.{IsKept, Kept}
 use Rattle.mem_store.specs.Served.{Finds, probe_of}
-use Rattle.mem_store.proofs.Keeps.{Answered, plain_entry, reads}
+use Rattle.mem_store.proofs.Keeps.{Answered, plain_entry, reads, some_along}
 
 head_at : (kept : Kept) (log : List Logged) (key : List ℕ) (object : Option Object) → IsKept kept log → object_at (replay log) key ≡ object → Answered kept kept log (Head key) (head_of object)
 head_at kept log key None before is =
@@ -24,9 +23,6 @@ pub head_answered : (kept : Kept) (log : List Logged) (key : List ℕ) (answer :
 head_answered kept log key answer before answers =
     let P : Brief → Type 0 = λ a. Answered kept kept log (Head key) a in
     subst P (sym answers) (head_at kept log key _ before (before.stands key))
-
-some_along : (a b : Option Object) → a ≡ b → IsSome a → IsSome b
-some_along a b is some = let P : Option Object → Type 0 = λ o. IsSome o in subst P is some
 
 probe_is : (kept : Kept) (log : List Logged) (key : List ℕ) (found : Bool) → IsKept kept log → Finds kept.objects (key ++ 47 ∷ []) found → IsProbe (replay log) key (probe_of found)
 probe_is kept log key true before finds = record { key = finds.0; stands = some_along _ _ (sym (before.stands finds.0)) finds.1; below = finds.2 }

@@ -2,13 +2,15 @@
 use Rattle.std.proofs.Common.{◌≡◌, ℕ, ◌≤◌, Bool, true, false, cond, IsSome, List, [], ◌∷◌, ◌++◌, length, Option, None, sym, refl, ap, ◌∙◌, subst, arith, BTreeMap}
 use Rattle.std.specs.BTreeMap as tree
 use Rattle.std.specs.BTreeMap.{Updates, is_at}
-use Rattle.std.specs.Cmp.{Equal-is, eq_by_cmp_equiv}
+use Rattle.std.specs.Cmp.{eq_by_cmp_equiv}
 use Rattle.std.specs.Cmp.Lexicographic.{slice_cmp, nat_list_cmp_total}
 use Rattle.std.specs.FinMap as map
-use Rattle.std.specs.FinMap.{get-empty, nat_cmp-IsAntisymmetric, slice_cmp-IsAntisymmetric}
+use Rattle.std.specs.FinMap.{get-empty}
 use Rattle.std.specs.Map.{lookup}
 use Rattle.std.specs.Ordering.{eq_by_cmp, nat_cmp}
 use Rattle.std.proofs.lemmas.List.FromFn.{length-range_with_len}
+use Rattle.mp_types.specs.Key.{IsKeyText}
+use Rattle.mp_types.proofs.Texts.{same_text}
 use Rattle.bucket_model.specs.declared.answer.Brief.{Brief}
 use Rattle.bucket_model.specs.declared.call.Call.{Call}
 use Rattle.bucket_model.specs.declared.history.Logged.{Logged}
@@ -17,7 +19,7 @@ use Rattle.bucket_model.specs.Answers.{MayBeMade, made_by}
 use Rattle.bucket_model.specs.Bucket.{BucketState, empty_bucket, ObjectVersion, after, object_at, version_made}
 use Rattle.bucket_model.specs.History.{replay, versions_of, IsLegalEntry, MakesName, MayAnswer}
 use Rattle.mem_store.specs.Kept.{AreNumbered, IsKept, Kept}
-use Rattle.mem_store.specs.Listed.{HaveKeyTexts, IsKeyText}
+use Rattle.mem_store.specs.Listed.{HaveKeyTexts}
 use Rattle.mem_store.specs.Served.{entry_of, IsServed, Serves, upload_in, uploads_made}
 use Rattle.mem_store.specs.Uploads.{Uploads}
 use Rattle.mem_store.proofs.Counts.{IsNextUpload, IsNextVersion, counted_next, ids_next, numbered_next}
@@ -101,10 +103,10 @@ changed_at objects changed old new key value stands changes updates q =
 some_at : (q key : List ℕ) (b : Bool) (value stood : Option Object) → eq_by_cmp (slice_cmp nat_cmp) key q ≡ b → IsKeyText key → (IsSome stood → IsKeyText q) → IsSome (cond b value stood) → IsKeyText q
 some_at q key true value stood at fits old some =
     let P : List ℕ → Type 0 = λ k. IsKeyText k in
-    subst P (slice_cmp-IsAntisymmetric nat_cmp-IsAntisymmetric key q ((Equal-is (slice_cmp nat_cmp key q)).0 at)) fits
+    subst P (same_text key q at) fits
 some_at q key false value stood at fits old some = old some
 
-some_along : (a b : Option Object) → a ≡ b → IsSome a → IsSome b
+pub some_along : (a b : Option Object) → a ≡ b → IsSome a → IsSome b
 some_along a b is some = let P : Option Object → Type 0 = λ o. IsSome o in subst P is some
 
 pub keys_at : (objects changed : BTreeMap (List ℕ) Object) (key : List ℕ) (value : Option Object) → HaveKeyTexts objects → IsKeyText key → Updates (slice_cmp nat_cmp) objects changed key value → HaveKeyTexts changed

@@ -1,5 +1,5 @@
 -- How the items of a page are found, one after the other.
-use Rattle.std.proofs.Common.{◌≡◌, ℕ, ◌+◌, ◌<◌, ◌≤◌, Bool, true, false, cond, not, List, [], ◌∷◌, ◌++◌, map, length, take, Option, Some, None, option_map, refl, sym, ap, ◌∙◌, subst, filter, append_assoc, append-nil, arith, length-append, take_all, take_at, nat_cmp, nat_lt, is_lt, Less, lt-ltb, le-ltb, BTreeMap, drop, IsSome, inl, inr}
+use Rattle.std.proofs.Common.{◌≡◌, ℕ, ◌<◌, ◌≤◌, Bool, true, false, cond, not, List, [], ◌∷◌, ◌++◌, map, length, take, Option, Some, None, option_map, refl, sym, ap, ◌∙◌, subst, filter, append_assoc, append-nil, arith, length-append, take_all, take_at, nat_cmp, nat_lt, is_lt, Less, lt-ltb, le-ltb, BTreeMap, drop, inl, inr}
 use Rattle.std.specs.BTreeMap.{is_at}
 use Rattle.std.specs.BTreeMap.Range.{entries_between, range_contains}
 use Rattle.std.specs.Cmp.Lexicographic.{slice_cmp}
@@ -13,6 +13,7 @@ use Rattle.std.proofs.lemmas.Bool.{and_parts}
 use Rattle.std.specs.Prelude.{nat_eq}
 use Rattle.std.specs.declared.ops.Bound.{Bound}
 use Rattle.std.specs.declared.ops.Bound.TheVariants.{Excluded, Included, Unbounded}
+use Rattle.mp_types.specs.Key.{IsKeyText}
 use Rattle.mp_types.specs.Path.{slash}
 use Rattle.bucket_model.specs.declared.history.Object.{Object}
 use Rattle.bucket_model.specs.declared.page.Page.{Page}
@@ -24,8 +25,9 @@ use Rattle.bucket_model.proofs.CommonPrefix.{at_or_behind, begins_between, commo
 use Rattle.bucket_model.proofs.Listing.{Among, among_found, item_common, item_object, items_climb, items_rise, key_of, plain_items, rises_kept}
 use Rattle.bucket_model.proofs.Order.{is_before, before_before, both_answers, false_unless, true_unless, not_both, upto_upto}
 use Rattle.bucket_model.proofs.Rising.{AllBehind, IsUpward, Rises, behind_first, behind_once, behind_upward, first_passes}
-use Rattle.mem_store.specs.Listed.{HaveKeyTexts, IsKeyText, StandBehind}
+use Rattle.mem_store.specs.Listed.{HaveKeyTexts, StandBehind}
 use Rattle.mem_store.proofs.Ahead.{and_true, le_is, past_slash, stand_after, stand_past}
+use Rattle.mem_store.proofs.First.{some_from}
 
 -- ---- the objects of a map rise
 
@@ -258,14 +260,11 @@ first_among : {X : Type 0} (test : X → Bool) (xs : List X) (first : X) (rest :
 first_among test [] first rest is = absurd (cc)
 first_among test (x ∷ xs) first rest is = first_among_by x first xs (filter test xs) rest (test x) is (first_among test xs first rest)
 
-is_some_value : (o : Option Object) (object : Object) → o ≡ Some object → IsSome o
-is_some_value o object is = let P : Option Object → Type 0 = λ x. IsSome x in subst P (sym is) refl
-
 pub key_fits : {prefix after : List ℕ} {max : ℕ} {objects : BTreeMap (List ℕ) Object} {items : List PageItem} {entries : List (List ℕ × Object)} (key : List ℕ) (object : Object) (rest : List (List ℕ × Object))
     → IsListedTo prefix after max objects items entries → entries ≡ (key, object) ∷ rest → HaveKeyTexts objects → IsKeyText key
 key_fits {objects = objects} key object rest listed is fit =
     let among = first_among (λ e. range_contains (slice_cmp nat_cmp) listed.stand.bound Unbounded e.0) objects.entries (key, object) rest (sym listed.stand.from ∙ is) in
-    fit key (is_some_value _ object (found_same key objects.entries ∙ among_found key object objects.entries (map_rises objects.entries listed.stand.ordered) among))
+    fit key (some_from _ object (found_same key objects.entries ∙ among_found key object objects.entries (map_rises objects.entries listed.stand.ordered) among))
 
 -- ---- what is passed at once is behind the entry
 

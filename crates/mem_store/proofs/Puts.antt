@@ -5,6 +5,7 @@ use Rattle.std.specs.BTreeMap.{Updates}
 use Rattle.std.specs.Cmp.Lexicographic.{slice_cmp, nat_list_cmp_total}
 use Rattle.std.specs.FinMap.{get-insert, get-remove}
 use Rattle.std.specs.Ordering.{nat_cmp}
+use Rattle.mp_types.specs.Key.{IsKeyText}
 use Rattle.bucket_model.specs.declared.answer.Brief.TheVariants.{Gone, Made}
 use Rattle.bucket_model.specs.declared.call.Call.TheVariants.{Delete, Put}
 use Rattle.bucket_model.specs.declared.history.Logged.{Logged}
@@ -12,7 +13,6 @@ use Rattle.bucket_model.specs.declared.history.Object.{Object}
 use Rattle.bucket_model.specs.Bucket.{BucketState, ObjectVersion, object_at, with_version, without_object}
 use Rattle.bucket_model.specs.History.{IsOneContent, replay, versions_of}
 use Rattle.mem_store.specs.Kept.{IsKept, Kept}
-use Rattle.mem_store.specs.Listed.{IsKeyText}
 use Rattle.mem_store.specs.Served.{etag_of_version}
 use Rattle.mem_store.proofs.Counts.{next_is_new}
 use Rattle.mem_store.proofs.Keeps.{Answered, changed_at, keys_at, keys_less, plain_entry}

@@ -7,9 +7,9 @@ use Rattle.std.specs.FinMap as map
 use Rattle.std.specs.Option.{option_map}
 use Rattle.std.specs.Ordering.{nat_cmp}
 use Rattle.std.specs.Prelude.{◌==◌}
+use Rattle.mp_types.specs.Key.{IsKeyText}
 use Rattle.bucket_model.specs.declared.history.Object.{Object}
 use Rattle.bucket_model.specs.Bucket.{Parts, Staged, Whole, joined_from, whole_of}
-use Rattle.mem_store.specs.Listed.{IsKeyText}
 use Rattle.mem_store.specs.Served.{etag_of_version}
 use Rattle.mem_store.specs.Uploads.{Completes, Uploads, whole_bytes, with_part}
 use Rattle.mem_store.proofs.Numbered.{map_of, found-map_of, insert-map_of}

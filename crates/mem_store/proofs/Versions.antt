@@ -1,8 +1,7 @@
 -- Each object that a legal history leaves is a version, and the first with its key and its ETag.
 use Rattle.std.proofs.Common.{◌≡◌, ℕ, Bool, true, false, cond, List, [], ◌∷◌, ◌++◌, Option, Some, None, sym, refl, ap, ◌∙◌, subst, append_assoc, append-nil, arith, suc}
-use Rattle.std.specs.Cmp.{Equal-is}
 use Rattle.std.specs.Cmp.Lexicographic.{slice_cmp, pointwise, nat_list_cmp_total}
-use Rattle.std.specs.FinMap.{get-empty, get-insert, get-remove, nat_cmp-IsAntisymmetric, slice_cmp-IsAntisymmetric}
+use Rattle.std.specs.FinMap.{get-empty, get-insert, get-remove}
 use Rattle.std.specs.List.{find, Contains}
 use Rattle.std.specs.Option.{option_map, option_or, option_to_list}
 use Rattle.std.specs.Ordering.{eq_by_cmp, nat_cmp}
@@ -10,6 +9,7 @@ use Rattle.std.specs.Prelude.{nat_eq}
 use Rattle.std.proofs.lemmas.Bool.{and_from, and_parts}
 use Rattle.std.proofs.lemmas.List.Folds.{find-append}
 use Rattle.std.proofs.lemmas.Slice.Eq.{bytes_eq-Decides}
+use Rattle.mp_types.proofs.Texts.{same_text}
 use Rattle.bucket_model.specs.declared.answer.Brief.{Brief}
 use Rattle.bucket_model.specs.declared.call.Call.{Call}
 use Rattle.bucket_model.specs.declared.call.Call.TheVariants as call
@@ -75,9 +75,6 @@ left : (b : Bool) (o : Option Object) (object : Object) → cond b None o ≡ So
 left true o object is = absurd (cc)
 left false o object is = is
 
-same_key : (q key : List ℕ) → eq_by_cmp (slice_cmp nat_cmp) q key ≡ true → q ≡ key
-same_key q key is = slice_cmp-IsAntisymmetric nat_cmp-IsAntisymmetric q key ((Equal-is (slice_cmp nat_cmp q key)).0 is)
-
 version_stands : (state : BucketState) (versions : List ObjectVersion) (new : ObjectVersion) (q : List ℕ) (object : Object) (b : Bool) → eq_by_cmp (slice_cmp nat_cmp) q new.key ≡ b
     → AreVersions state versions → IsOneContent versions new → cond b (Some (record { etag = new.etag; bytes = new.bytes })) (object_at state q) ≡ Some object
     → version_at (versions ++ new ∷ []) q object.etag ≡ Some object.bytes
@@ -86,7 +83,7 @@ version_stands state versions new q object true at are one is =
     let same : made ≡ object = cc in
     let P : List ℕ → Type 0 = λ k. version_at (versions ++ new ∷ []) k object.etag ≡ Some object.bytes in
     let Q : Object → Type 0 = λ o. version_at (versions ++ new ∷ []) new.key o.etag ≡ Some o.bytes in
-    subst P (sym (same_key q new.key at)) (subst Q same (new_stands versions new one))
+    subst P (sym (same_text q new.key at)) (subst Q same (new_stands versions new one))
 version_stands state versions new q object false at are one is = first_stays versions (new ∷ []) q object.etag object.bytes (are q object is)
 
 -- where a version was made, if one was

@@ -1,5 +1,5 @@
 -- How a bucket in memory finds the items of a page.
-use Rattle.std.specs.Prelude.{◌≡◌, ℕ, ◌<◌, ◌≤◌, true, false, List, length, IsSome}
+use Rattle.std.specs.Prelude.{◌≡◌, ℕ, true, false, List, IsSome}
 use Rattle.std.specs.BTreeMap as tree
 use Rattle.std.specs.BTreeMap.{BTreeMap}
 use Rattle.std.specs.BTreeMap.Range.{entries_between, range_contains}
@@ -7,12 +7,9 @@ use Rattle.std.specs.Cmp.Lexicographic.{slice_cmp}
 use Rattle.std.specs.Ordering.{is_lt, nat_cmp}
 use Rattle.std.specs.declared.ops.Bound.{Bound}
 use Rattle.std.specs.declared.ops.Bound.TheVariants.{Unbounded}
+use Rattle.mp_types.specs.Key.{IsKeyText}
 use Rattle.bucket_model.specs.declared.history.Object.{Object}
 use Rattle.bucket_model.specs.Listing.{has_prefix, is_behind, item_of}
-
--- as long as a key may be
-abbrev pub IsKeyText : List ℕ → Type 0
-IsKeyText text = (0 < length text) × (length text ≤ 1024)
 
 abbrev pub HaveKeyTexts : BTreeMap (List ℕ) Object → Type 0
 HaveKeyTexts objects = (key : List ℕ) → IsSome (tree.get (slice_cmp nat_cmp) objects key) → IsKeyText key

@@ -14,7 +14,7 @@ use Rattle.bucket_model.specs.declared.history.Name.{Name}
 use Rattle.bucket_model.specs.declared.history.Name.TheVariants as name
 use Rattle.bucket_model.specs.declared.history.Logged.{Logged}
 use Rattle.bucket_model.specs.declared.history.Object.{Object}
-use Rattle.bucket_model.specs.Answers.{made_by}
+use Rattle.bucket_model.specs.Answers.{entry_after}
 use Rattle.bucket_model.specs.Bucket.{IsAnswer}
 use Rattle.bucket_model.specs.History.{History, replay, versions_of, IsLegalHistory}
 
@@ -24,7 +24,7 @@ etag_of_version number = 118 ∷ decimal number
 
 -- the entry of an answered call
 abbrev pub entry_of : Call → Brief → Logged
-entry_of asked answer = record { entry = record { call = asked; answer = answer; took = true }; made = made_by answer }
+entry_of asked answer = entry_after asked answer answer
 
 -- what is told of a log
 abbrev pub history_of : List Logged → History

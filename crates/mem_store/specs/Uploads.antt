@@ -5,9 +5,9 @@ use Rattle.std.specs.Cmp.Lexicographic.{slice_cmp}
 use Rattle.std.specs.Coded.{Coded, code_by, coded×, coded_list, coded_ℕ}
 use Rattle.std.specs.FinMap as map
 use Rattle.std.specs.Ordering.{nat_cmp}
+use Rattle.mp_types.specs.Key.{IsKeyText}
 use Rattle.bucket_model.specs.declared.history.Object.{Object}
 use Rattle.bucket_model.specs.Bucket.{Parts, Staged, Whole, joined_from}
-use Rattle.mem_store.specs.Listed.{IsKeyText}
 use Rattle.mem_store.specs.Served.{etag_of_version}
 
 abbrev pub Uploads : Type 0

@@ -4,12 +4,13 @@ ghost use Rattle.std.specs.BTreeMap.Range.{entries_between};
 ghost use Rattle.std.specs.Cmp.Lexicographic.{slice_cmp};
 ghost use Rattle.std.specs.Ordering.{nat_cmp};
 ghost use Rattle.std.specs.declared.ops.Bound.TheVariants.{Included, Unbounded};
+ghost use Rattle.mp_types.specs.Key.{IsKeyText};
 ghost use Rattle.bucket_model.specs.declared.page.PageItem.TheVariants as item;
 ghost use Rattle.bucket_model.specs.Listing.{has_prefix, page_of, up_to_slash};
-ghost use Rattle.mem_store.specs.Listed.{HaveKeyTexts, IsKeyText, StandBehind};
+ghost use Rattle.mem_store.specs.Listed.{HaveKeyTexts, StandBehind};
 
 use bucket_model::{Object, Page, PageItem};
-use mp_types::{Key, KeyFault, Shared, Text, behind};
+use mp_types::{Key, Shared, Text, behind};
 use std::alloc::{AllocError, Global};
 use std::collections::BTreeMap;
 use std::collections::btree_map::Range;
@@ -89,15 +90,11 @@ fn object_item(alloc: Global, key: &Text, object: &Object) -> Result<PageItem, A
     requires { IsKeyText key.now }
     ensures { IfOk result (λ made. made ≡ item.Object key.now object.now.etag (length object.now.bytes)) }
 {
-    match Key::parse(alloc, key.as_str()) {
-        Ok(key) => Ok(PageItem::Object {
-            key,
-            etag: object.etag.copy(),
-            size: object.bytes.len() as u64,
-        }),
-        Err(KeyFault::Memory) => Err(AllocError),
-        Err(_) => unreachable!(),
-    }
+    Ok(PageItem::Object {
+        key: Key::of(alloc, key.as_str())?,
+        etag: object.etag.copy(),
+        size: object.bytes.len() as u64,
+    })
 }
 
 /// A page of the prefix behind the text. It looks at one entry for each item, and one more: what has a common prefix is

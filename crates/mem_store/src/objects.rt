@@ -3,9 +3,9 @@ ghost use Rattle.std.specs.BTreeMap as tree;
 ghost use Rattle.std.specs.BTreeMap.{IsUnchanged, Updates};
 ghost use Rattle.std.specs.Cmp.Lexicographic.{slice_cmp};
 ghost use Rattle.std.specs.Ordering.{nat_cmp};
+ghost use Rattle.mp_types.specs.Key.{IsKeyText};
 ghost use Rattle.bucket_model.specs.Answers.{brief_of, brings_page};
 ghost use Rattle.bucket_model.specs.Bucket.{head_of};
-ghost use Rattle.mem_store.specs.Listed.{IsKeyText};
 ghost use Rattle.mem_store.specs.Served.{answer_of_get, etag_of_version, Finds, probe_of};
 
 use bucket_model::{Answer, Object};

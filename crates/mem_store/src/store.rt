@@ -8,7 +8,7 @@ ghost use Rattle.mem_store.specs.Served.{IsServed, history_of};
 ghost use Rattle.mem_store.specs.Laws.{honest_is_legal, position_is};
 
 use crate::listing::list_page;
-use crate::log::{add_entry, plain_brief};
+use crate::log::{log_answered, plain_brief};
 use crate::objects::{
     finds_below, get_answer, head_answer, probe_answer, put_version, remove_object,
 };
@@ -72,7 +72,7 @@ impl MemStore {
             Err(_) => return (place, Answer::NoMemory),
         }
         let answer = head_answer(&self.objects, &key);
-        add_entry(&mut self.log, Call::Head { key }, plain_brief(&answer));
+        log_answered(&mut self.log, Call::Head { key }, plain_brief(&answer));
         (place, answer)
     }
 
@@ -89,7 +89,7 @@ impl MemStore {
             Err(_) => return (place, Answer::NoMemory),
         };
         let answer = probe_answer(found);
-        add_entry(&mut self.log, Call::Probe { key }, plain_brief(&answer));
+        log_answered(&mut self.log, Call::Probe { key }, plain_brief(&answer));
         (place, answer)
     }
 
@@ -112,7 +112,7 @@ impl MemStore {
             Err(_) => return (place, Answer::NoMemory),
         };
         let call = Call::List { prefix, after, max };
-        add_entry(&mut self.log, call, Brief::Page(shared));
+        log_answered(&mut self.log, call, Brief::Page(shared));
         (place, Answer::Page(page))
     }
 
@@ -136,7 +136,7 @@ impl MemStore {
             from,
             to,
         };
-        add_entry(&mut self.log, call, plain_brief(&answer));
+        log_answered(&mut self.log, call, plain_brief(&answer));
         (place, answer)
     }
 
@@ -150,7 +150,7 @@ impl MemStore {
         }
         remove_object(&mut self.objects, &key);
         let answer = Answer::Gone;
-        add_entry(&mut self.log, Call::Delete { key }, plain_brief(&answer));
+        log_answered(&mut self.log, Call::Delete { key }, plain_brief(&answer));
         (place, answer)
     }
 
@@ -168,7 +168,7 @@ impl MemStore {
             Err(_) => return (place, Answer::NoMemory),
         };
         self.versions = number;
-        add_entry(
+        log_answered(
             &mut self.log,
             Call::Put { key, bytes },
             plain_brief(&answer),
@@ -191,7 +191,7 @@ impl MemStore {
         }
         self.created = upload;
         let answer = Answer::Upload(upload);
-        add_entry(&mut self.log, Call::Create { key }, plain_brief(&answer));
+        log_answered(&mut self.log, Call::Create { key }, plain_brief(&answer));
         (place, answer)
     }
 
@@ -214,7 +214,7 @@ impl MemStore {
             number,
             bytes,
         };
-        add_entry(&mut self.log, call, plain_brief(&answer));
+        log_answered(&mut self.log, call, plain_brief(&answer));
         (place, answer)
     }
 
@@ -235,11 +235,11 @@ impl MemStore {
         {
             Ok(Some(etag)) => {
                 self.versions = number;
-                add_entry(&mut self.log, call, Brief::Made(etag.copy()));
+                log_answered(&mut self.log, call, Brief::Made(etag.copy()));
                 (place, Answer::Made(etag))
             }
             Ok(None) => {
-                add_entry(&mut self.log, call, Brief::NoUpload);
+                log_answered(&mut self.log, call, Brief::NoUpload);
                 (place, Answer::NoUpload)
             }
             Err(_) => (place, Answer::NoMemory),
@@ -255,7 +255,7 @@ impl MemStore {
             Err(_) => return (place, Answer::NoMemory),
         }
         let answer = self.uploads.abort(upload);
-        add_entry(&mut self.log, Call::Abort { upload }, plain_brief(&answer));
+        log_answered(&mut self.log, Call::Abort { upload }, plain_brief(&answer));
         (place, answer)
     }
 }

@@ -16,14 +16,6 @@ change_line-twice n f g (s ∷ lines) = at_one (eqb s.line.number n) refl (chang
     at_one true e below = rw (e, e) (ap (λ t. with_phase (λ p. f (g p)) s ∷ t) below)
     at_one false e below = rw (e, e) (ap (λ t. s ∷ t) below)
 
-pub change_line-same : (n : ℕ) (lines : List Standing) → change_line n (λ p. p) lines ≡ lines
-change_line-same n [] = refl
-change_line-same n (s ∷ lines) = at_one (eqb s.line.number n) refl (change_line-same n lines)
-  where
-    at_one : (b : Bool) → eqb s.line.number n ≡ b → change_line n (λ p. p) lines ≡ lines → change_line n (λ p. p) (s ∷ lines) ≡ s ∷ lines
-    at_one true e below = rw e (ap (λ t. s ∷ t) below)
-    at_one false e below = rw e (ap (λ t. s ∷ t) below)
-
 -- the line of the number after the change
 pub line_at-change : (n : ℕ) (f : Phase → Phase) (lines : List Standing) (s : Standing) → line_at n lines ≡ Some s → line_at n (change_line n f lines) ≡ Some (with_phase f s)
 line_at-change n f [] s h = absurd (cc)

@@ -1,5 +1,5 @@
 -- Each event of a core, from the parts before it to the parts behind it.
-use Rattle.std.proofs.Common.{◌≡◌, ◌≢◌, ℕ, ◌+◌, ◌<◌, true, false, List, [], ◌∷◌, ◌++◌, map, length, max, Option, Some, None, refl, sym, ap, ◌∙◌, subst, ◌⊎◌, inr, arith, append-nil, ◌↔◌, Result, Ok, Err}
+use Rattle.std.proofs.Common.{◌≡◌, ◌≢◌, ℕ, ◌<◌, true, false, List, [], ◌∷◌, ◌++◌, map, length, max, Option, Some, None, refl, sym, ap, ◌∙◌, subst, ◌⊎◌, inr, arith, append-nil, ◌↔◌, Result, Ok, Err}
 use Rattle.std.specs.Prelude.{IfOk, IsOk}
 use Rattle.std.specs.declared.alloc.AllocError.{AllocError}
 use Rattle.std.specs.List.{AllByRecursion}
@@ -29,7 +29,10 @@ use Rattle.mount_model.specs.Step.{Step, step_of, HasStep}
 use Rattle.mount_model.specs.State.{Shared, ClientState, Job, Out, Gone, Turn, TurnOf, opening, shared_at_first, view_of, after, state_after, line_at, change_line, heard, lines_at, jobs_at, job_at, change_job, time_after, next_in, turn_of_line, turn_of_writer, turn_at}
 use Rattle.mount_model.specs.Conversation.{Next, Asks, Gives, View, next_of}
 use Rattle.mount_model.specs.Run.{IsLegalStep, IsRunSoFar, AreRising, MayDone, due_awaits, startable, ready, is_among, IsQuiet}
+use Rattle.mount_model.proofs.Steps.{HasStep-change_last}
+use Rattle.mount_model.proofs.Numbered.{numbered-change}
 use Rattle.line_table.specs.Table.{HasBegun}
+use Rattle.line_table.proofs.Kept.{change_line-same}
 use Rattle.job_table.specs.LiveJobs as table
 use Rattle.job_table.specs.declared.purpose.Purpose.{Purpose}
 use Rattle.job_table.specs.declared.purpose.Purpose.TheVariants.{Other}
@@ -47,7 +50,7 @@ use Rattle.run_laws.proofs.Conversation.{gives-read}
 use Rattle.run_laws.proofs.Faithful.{faithful, job_makes_call}
 use Rattle.run_laws.proofs.Made.{calls_made}
 use Rattle.run_laws.proofs.Listed.{answered_listing}
-use Rattle.run_laws.proofs.Jobs.{length-change_job, numbered-change}
+use Rattle.run_laws.proofs.Jobs.{length-change_job}
 use Rattle.run_laws.proofs.Opened.{IsOpened, begins-line, begin-opens, done-opens}
 use Rattle.name_laws.specs.Files.{HasFiles}
 use Rattle.name_laws.proofs.Steps.{run-files}
@@ -57,10 +60,9 @@ use Rattle.mount_core.specs.Shared.{shared_in}
 use Rattle.mount_core.specs.Turn.{next_behind, lines_behind, turn_behind, with_part, AreAll, NamedMayTurn, Answers, Takes, Speaks}
 use Rattle.mount_core.specs.Writing.{MayHear}
 use Rattle.mount_core.specs.Core.{state_of, Advances, IsCore, core_of}
-use Rattle.mount_core.proofs.Changes.{line_at-change, change_line-same}
+use Rattle.mount_core.proofs.Changes.{line_at-change}
 use Rattle.mount_core.proofs.Dues.{number-is, next-seen, next_seen}
 use Rattle.mount_core.proofs.Questions.{gives_none, gives_brought}
-use Rattle.mount_core.proofs.Steps.{HasStep-change_last}
 use Rattle.mount_core.proofs.Advance.{TurnDone, turn_done, core_goes_on, core_advances}
 use Rattle.mount_core.proofs.Hearers.{named_may, hears_line, heard-speaks, HearsWriter, hears_writer}
 
@@ -73,10 +75,6 @@ files_core work core = run-files (core_of work).options (core_of work).script (c
 
 falls : (work : Work) → IsCore work (core_of work) → (step : Step) → IsLegalStep (state_of (core_of work)) step → work_left (after (state_of (core_of work)) step) < work_left (state_of (core_of work))
 falls work core step legal = work_falls (state_of (core_of work)) step (alive_core work core) (faithful (core_of work).options (core_of work).script (core_of work).steps core.within core.rising core.so_far) legal
-
-numbered : (n : ℕ) (jobs : List Job) → laws.AreNumbered n jobs → table.AreNumbered n jobs
-numbered n [] h = tt
-numbered n (job ∷ jobs) h = (h.0, numbered (n + 1) jobs h.1)
 
 -- the lines say what they said
 script_kept : (old begun new : Work) (event : Event) (bytes : List ℕ) → IsCore old (core_of old) → TurnDone (state_of (core_of old)) event bytes old.record.steps begun new → map (λ s. s.line) new.lines ≡ map (λ s. s.line) old.lines
@@ -104,7 +102,7 @@ leaves old event bytes begun new core done same time =
 
 begun_jobs : (old begun : Work) (n time : ℕ) → IsCore old (core_of old) → begun.jobs ≡ old.jobs → AreAll begun.jobs (jobs_at (state_of (core_of old)).jobs (Begin n time))
 begun_jobs old begun n time core jobs = record {
-  numbered = numbered 1 (state_of (core_of old)).jobs (alive_core old core).numbered;
+  numbered = (alive_core old core).numbered;
   held = ap (λ j. j.held) jobs ∙ core.held;
   count = ap (λ j. j.count) jobs ∙ core.count;
 }
@@ -165,8 +163,8 @@ take_leaves old new n time from core may behind time_is steps lines count held s
     let is_alive = alive_core old core in
     let t : max old.time time ≡ max s.time time = ap (λ x. max x time) core.time in
     let event : Event = Take n (max s.time time) from in
-    let job = ready_job n 1 s.jobs (numbered 1 s.jobs is_alive.numbered) may in
-    let out : table.held_of (change_job n (Out from) s.jobs) ≡ table.with_taken n (table.held_of s.jobs) = held_of-out n 1 from s.jobs job.job (numbered 1 s.jobs is_alive.numbered) job.stands job.is_ready in
+    let job = ready_job n 1 s.jobs is_alive.numbered may in
+    let out : table.held_of (change_job n (Out from) s.jobs) ≡ table.with_taken n (table.held_of s.jobs) = held_of-out n 1 from s.jobs job.job is_alive.numbered job.stands job.is_ready in
     let step : Step = step_of event in
     let all : change_job n (Out from) s.jobs ++ [] ≡ change_job n (Out from) s.jobs = append-nil (change_job n (Out from) s.jobs) in
     let done : TurnDone s event [] old.record.steps new new = record {
@@ -192,7 +190,7 @@ take_leaves old new n time from core may behind time_is steps lines count held s
 pub taken_call : (old : Work) (n : ℕ) (called : Call) → IsCore old (core_of old) → is_among n (ready (state_of (core_of old)).jobs) ≡ true → ((h : table.Held) → table.held_at n old.jobs.held ≡ Some h → h.call ≡ Some called) → (j : Job) → job_at n (state_of (core_of old)).jobs ≡ Some j → called ≡ j.call
 taken_call old n called core may calls j stands =
     let s : ClientState = state_of (core_of old) in
-    let job = ready_job n 1 s.jobs (numbered 1 s.jobs (alive_core old core).numbered) may in
+    let job = ready_job n 1 s.jobs (alive_core old core).numbered may in
     let same : Some job.job ≡ Some j = sym job.stands ∙ stands in
     let is : job.job ≡ j = cc in
     let held : table.held_at n old.jobs.held ≡ Some (table.held_as (Some job.job.call) job.job) = ap (table.held_at n) core.held ∙ held_at-ready n s.jobs job.job job.stands job.is_ready in
@@ -204,14 +202,14 @@ taken_call old n called core may calls j stands =
 pub taken_may : (old : Work) (n : ℕ) (called : Call) → IsCore old (core_of old) → is_among n (ready (state_of (core_of old)).jobs) ≡ true → ((h : table.Held) → table.held_at n old.jobs.held ≡ Some h → h.call ≡ Some called) → MayBeMade called
 taken_may old n called core may calls =
     let s : ClientState = state_of (core_of old) in
-    let job = ready_job n 1 s.jobs (numbered 1 s.jobs (alive_core old core).numbered) may in
+    let job = ready_job n 1 s.jobs (alive_core old core).numbered may in
     let is : called ≡ job.job.call = taken_call old n called core may calls job.job job.stands in
     subst MayBeMade (sym is) (calls_made (core_of old).options (core_of old).script (core_of old).steps n job.job core.within core.rising core.so_far job.stands)
 
 pub taken_ready : (old : Work) (n : ℕ) → IsCore old (core_of old) → is_among n (ready (state_of (core_of old)).jobs) ≡ true → table.IsReadyIn n old.jobs.held
 taken_ready old n core may =
     let s : ClientState = state_of (core_of old) in
-    let job = ready_job n 1 s.jobs (numbered 1 s.jobs (alive_core old core).numbered) may in
+    let job = ready_job n 1 s.jobs (alive_core old core).numbered may in
     subst (table.IsReadyIn n) (sym core.held) (is_ready_in n s.jobs job.job job.stands job.is_ready)
 
 pub done_out : (old : Work) (n position : ℕ) (answer : Brief) → IsCore old (core_of old) → MayDone (state_of (core_of old)) n position answer → table.IsOutIn n old.jobs.held
@@ -245,9 +243,9 @@ is_of_job old n position answer who line purpose core may owns =
 ended_jobs : (old ended : Work) (n position : ℕ) (answer : Brief) → IsCore old (core_of old) → HasEnded n position answer old ended → AreAll ended.jobs (jobs_at (state_of (core_of old)).jobs (Done n position answer))
 ended_jobs old ended n position answer core is =
     let s : ClientState = state_of (core_of old) in
-    let all = numbered 1 s.jobs (alive_core old core).numbered in
+    let all = (alive_core old core).numbered in
     record {
-      numbered = numbered 1 (change_job n Gone s.jobs) (numbered-change 1 n Gone s.jobs (alive_core old core).numbered);
+      numbered = numbered-change 1 n Gone s.jobs (alive_core old core).numbered;
       held = is.held ∙ (ap (table.without n) core.held ∙ sym (held_of-gone n 1 s.jobs all));
       count = is.count ∙ (core.count ∙ sym (length-change_job n Gone s.jobs));
     }

@@ -11,6 +11,7 @@ use Rattle.mount_model.specs.Run.{AreRising}
 use Rattle.bucket_model.specs.declared.call.Call.{Call}
 use Rattle.job_table.specs.LiveJobs.{Held, held_at, with_taken, without, IsReadyIn, IsOutIn}
 use Rattle.core_writes.specs.Owed.{owes_call, owes_jobs}
+use Rattle.core_writes.proofs.Dropped.{less-owed}
 use Rattle.mount_core.specs.Room.{owes_phase, owes_lines}
 
 -- lines below a number are not of this number
@@ -66,14 +67,6 @@ owes_jobs-taken n held is_ready = among n held is_ready.job is_ready.called is_r
             rw e (omega (arith, two, taken-no_more n held))
         at_one false e stands below = let there : held_at n held ≡ Some job = rw e at stands in rw e (omega (arith, below there waits))
 
-without-no_more : (n : ℕ) (held : List Held) → owes_jobs (without n held) ≤ owes_jobs held
-without-no_more n [] = omega arith
-without-no_more n (h ∷ held) = at_one (eqb h.number n) refl (without-no_more n held)
-  where
-    at_one : (b : Bool) → eqb h.number n ≡ b → owes_jobs (without n held) ≤ owes_jobs held → owes_jobs (without n (h ∷ held)) ≤ owes_jobs (h ∷ held)
-    at_one true e below = rw e (omega (arith, below))
-    at_one false e below = rw e (omega (arith, below))
-
 pub owes_jobs-without : (n : ℕ) (held : List Held) → IsOutIn n held → owes_jobs (without n held) + 1 ≤ owes_jobs held
 owes_jobs-without n held is_out = among n held is_out.job is_out.stands
   where
@@ -86,7 +79,7 @@ owes_jobs-without n held is_out = among n held is_out.job is_out.stands
     among n (h ∷ held) job stands = at_one (eqb h.number n) refl stands (among n held job)
       where
         at_one : (b : Bool) → eqb h.number n ≡ b → held_at n (h ∷ held) ≡ Some job → (held_at n held ≡ Some job → owes_jobs (without n held) + 1 ≤ owes_jobs held) → owes_jobs (without n (h ∷ held)) + 1 ≤ owes_jobs (h ∷ held)
-        at_one true e stands below = rw e (omega (arith, one_each h.call, without-no_more n held))
+        at_one true e stands below = rw e (omega (arith, one_each h.call, less-owed n held))
         at_one false e stands below = let there : held_at n held ≡ Some job = rw e at stands in rw e (omega (arith, below there))
 
 pub owes_jobs-push : (held : List Held) (h : Held) → owes_jobs (held ++ h ∷ []) ≡ owes_jobs held + owes_call h.call

@@ -5,15 +5,13 @@ use Rattle.mount_model.specs.declared.event.Ask.{Ask}
 use Rattle.mount_model.specs.declared.event.Answered.{Answered}
 use Rattle.mount_model.specs.Step.{Step, step_of, change_last, with_ask, HasStep}
 use Rattle.mount_model.proofs.Order.{change_last-push}
+use Rattle.mount_model.proofs.Steps.{HasStep-change_last}
 use Rattle.core_writes.specs.Turn.{with_turn}
 use Rattle.mount_core.specs.Turn.{with_part}
 
 -- there is a step behind an event
 pub has_step : (before steps : List Step) (event : Event) → steps ≡ before ++ step_of event ∷ [] → HasStep steps
 has_step before steps event is = record { before = before; last = step_of event; are = is }
-
-pub HasStep-change_last : (f : Step → Step) (steps : List Step) → HasStep steps → HasStep (change_last f steps)
-HasStep-change_last f steps has = record { before = has.before; last = f has.last; are = ap (change_last f) has.are ∙ change_last-push f has.before has.last }
 
 pub still_steps : (f : Step → Step) (old new : List Step) → new ≡ change_last f old → HasStep old → HasStep new
 still_steps f old new is has = subst HasStep (sym is) (HasStep-change_last f old has)

@@ -32,10 +32,12 @@ use Rattle.mount_model.specs.Handles.{Writer, name_in, handle_named, handle_of}
 use Rattle.mount_model.specs.Reads.{GivesOnly}
 use Rattle.mount_model.specs.Run.{Says, TakesTurn, TakesTurnOfLine, asked_of}
 use Rattle.line_table.specs.Table.{HasBegun}
+use Rattle.line_table.proofs.Kept.{change_line-same}
 use Rattle.job_table.specs.LiveJobs.{LiveJobs, Held, purpose_of}
 use Rattle.job_table.proofs.AllJobs.{held_of-push}
 use Rattle.run_laws.proofs.Conversation.{IsPlain, replies-plain, opens-free, creates-free}
 use Rattle.run_laws.proofs.Effects.{reply-first, asks-shared, waits-shared}
+use Rattle.run_laws.proofs.Alive.{no-asks}
 use Rattle.mount_plan.specs.Meant.{with_last}
 use Rattle.name_laws.specs.Files.{IsNoName}
 use Rattle.name_laws.proofs.Walks.{created, made}
@@ -44,24 +46,10 @@ use Rattle.mount_core.specs.Due.{MayLack, IsWait, is_waiting}
 use Rattle.mount_core.specs.Shared.{shared_in}
 use Rattle.mount_core.specs.Turn.{heard_last, lines_behind, next_behind, owner_behind, turn_behind, with_part, gone_with, AreAll, Holds, Answers, Takes, HasPlace, MayOpen, RemovesDir, SharedAlone, Speaks}
 use Rattle.mount_core.specs.Ends.{Asks, Ends}
-use Rattle.mount_core.proofs.Changes.{change_line-twice, change_line-same}
+use Rattle.mount_core.proofs.Changes.{change_line-twice}
 use Rattle.mount_core.proofs.Questions.{opens_fits, creates_fits, removes_fits}
 use Rattle.mount_core.proofs.Dues.{gone_on, number-is, next-seen, next_seen, turn-is}
 use Rattle.mount_core.proofs.Steps.{change_last-same, with_part-none, with_part-ask, steps-more}
-
--- where nothing is asked, no job is made
-none-asked : (step : Step) (line : Line) (next : Next) → step.asks ≡ [] → jobs_of_line step line next ≡ []
-none-asked step line (said.Asks called) none = rw none refl
-none-asked step line (Replies told) none = refl
-none-asked step line (Makes key) none = refl
-none-asked step line (Removes key) none = refl
-none-asked step line (Opens version) none = refl
-none-asked step line (Creates key) none = refl
-none-asked step line (Lists entries) none = refl
-none-asked step line (Gives count) none = refl
-none-asked step line (Writes count writer) none = rw none refl
-none-asked step line (EndsIt writer) none = rw none refl
-none-asked step line Waits none = refl
 
 -- no job is asked for or dropped
 holds-same : (jobs now : LiveJobs) (all asked : List Job) (drops : List ℕ) → now ≡ jobs → AreAll jobs all → asked ≡ [] → drops ≡ [] → Holds now (gone_with (all ++ asked) drops)
@@ -129,7 +117,7 @@ takes_replying n last bytes told next old kept new begun is steps lines jobs tim
       steps = answers.steps ∙ ap (change_last (with_part [] [] own)) steps;
       replied = answers.lines ∙ (lines ∙ sym (change_line-twice n (λ phase. Replied) (heard_last last) old.lines));
       legal = λ state step drops asks_are all len. subst (λ (t : Turn). TakesTurn state step t own) (sym turn) (may state step line who number asks_are drops);
-      jobs = λ step all drops asks_are is. subst (λ (t : Turn). Holds new.jobs (gone_with (all ++ jobs_asked step t) step.drops)) (sym turn) (holds-same old.jobs new.jobs all (jobs_of_line step line next) step.drops (answers.jobs ∙ jobs) is (none-asked step line next asks_are) drops);
+      jobs = λ step all drops asks_are is. subst (λ (t : Turn). Holds new.jobs (gone_with (all ++ jobs_asked step t) step.drops)) (sym turn) (holds-same old.jobs new.jobs all (jobs_of_line step line next) step.drops (answers.jobs ∙ jobs) is (no-asks step line next asks_are) drops);
       shared = λ step all more is drops asks_are replies.
           let said_is : reply_in line.number step.replies ≡ Some told = ap (λ k. reply_in k step.replies) number ∙ (ap (reply_in n) replies ∙ reply-first n told more) in
           does step ∙ (ap (by_reply next line step (shared_in old)) (sym said_is) ∙ ap (λ (t : Turn). shared_after t step (shared_in old)) (sym turn));

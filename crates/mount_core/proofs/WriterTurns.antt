@@ -32,6 +32,7 @@ use Rattle.run_laws.proofs.Jobs.{length-change_job}
 use Rattle.run_laws.proofs.Keyed.{all-append}
 use Rattle.run_laws.proofs.Left.{AnswerIs, NoAnswer, OneAnswer, answer-is}
 use Rattle.line_table.specs.Table.{HasBegun}
+use Rattle.line_table.proofs.Kept.{change_line-same}
 use Rattle.job_table.specs.LiveJobs.{LiveJobs, purpose_of}
 use Rattle.job_table.specs.declared.purpose.Purpose.{Purpose}
 use Rattle.job_table.specs.declared.purpose.Purpose.TheVariants as purpose
@@ -44,7 +45,6 @@ use Rattle.mount_core.specs.Due.{is_waiting}
 use Rattle.mount_core.specs.Shared.{shared_in}
 use Rattle.mount_core.specs.Turn.{AreAll, HasWriter, Holds, MayTurn, SharedAlone, Takes, WriterTurned, gone_with, heard_last, lines_behind, next_behind, owner_behind, turn_behind, with_part}
 use Rattle.mount_core.specs.Writing.{MayHear, WaitsFor}
-use Rattle.mount_core.proofs.Changes.{change_line-same}
 use Rattle.mount_core.proofs.Dues.{next-seen, number-is, turn-is}
 use Rattle.mount_core.proofs.Steps.{steps-behind, with_part-none}
 use Rattle.mount_core.proofs.Turns.{plain-gives}

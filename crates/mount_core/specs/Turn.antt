@@ -18,7 +18,7 @@ use Rattle.mount_model.specs.declared.standing.Phase.{Phase}
 use Rattle.mount_model.specs.declared.standing.Standing.{Standing}
 use Rattle.mount_model.specs.declared.standing.Told.{Told}
 use Rattle.mount_model.specs.Step.{Step, change_last}
-use Rattle.mount_model.specs.State.{ClientState, Shared, Job, Gone, Turn, line_at, change_line, change_job, heard, jobs_at, jobs_asked, next_in, turn_of_line, with_replies, with_names, names_behind, handle_behind, is_answered, shared_after}
+use Rattle.mount_model.specs.State.{ClientState, Shared, Job, Gone, Turn, line_at, change_line, change_job, heard, jobs_at, jobs_asked, next_in, turn_of_line, with_replies, with_names, names_behind, handle_behind, is_answered, shared_after, AreNumbered}
 use Rattle.mount_model.specs.Conversation.{Next, Ends, Waits, Gives}
 use Rattle.mount_model.specs.Writers.{answer_to}
 use Rattle.mount_model.specs.Handles.{Writer, name_in, handle_of, owner_for}
@@ -26,7 +26,7 @@ use Rattle.mount_model.specs.Reads.{GivesOnly}
 use Rattle.mount_model.specs.Run.{TakesTurn}
 use Rattle.run_laws.specs.Writers.{waiting_line}
 use Rattle.line_table.specs.Table.{HasBegun}
-use Rattle.job_table.specs.LiveJobs.{LiveJobs, held_of, ready_of_writer, AreNumbered}
+use Rattle.job_table.specs.LiveJobs.{LiveJobs, held_of, ready_of_writer}
 use Rattle.core_writes.specs.Turn.{IsTurn}
 use Rattle.mount_core.specs.declared.due.Due.{Due}
 use Rattle.mount_core.specs.declared.work.Work.{Work}

@@ -1,12 +1,15 @@
-ghost use Rattle.std.specs.Prelude.{◌≡◌, ℕ, ◌<◌, ◌≤◌, List, Option, length, Ok, IfOk, option_copied};
+ghost use Rattle.std.specs.Prelude.{◌≡◌, ℕ, List, Option, Ok, IfOk, option_copied};
 ghost use Rattle.mp_types.specs.Content.{bytes_of};
+ghost use Rattle.mp_types.specs.Key.{IsKeyText};
 ghost use Rattle.mp_types.specs.Path.{path_of};
-ghost use Rattle.bucket_model.specs.declared.call.Call.TheVariants.{Delete, Get, Head, List as Page, Probe, Put};
+ghost use Rattle.bucket_model.specs.declared.call.Call.TheVariants.{Delete, Get, List as Page, Put};
+ghost use Rattle.mp_rules.specs.QuestionRef.{as_question, key_in};
 ghost use Rattle.listing_rules.specs.Names.{listing_of, prefix_of};
 ghost use Rattle.listing_rules.specs.Pages.{items_of};
 ghost use Rattle.mount_model.specs.declared.request.Request.{Request};
 ghost use Rattle.mount_model.specs.Conversation.{Next, Asks, Makes, Opens, Creates, Lists, next_of, pages_in};
 ghost use Rattle.mount_model.specs.Handles.{Handle as HandleAt, owner_for};
+ghost use Rattle.mount_model.specs.Heard.{call_of};
 ghost use Rattle.mount_plan.specs.Meant.{MeansOne, with_last};
 ghost use Rattle.mount_plan.specs.Seen.{view_of};
 ghost use Rattle.mount_core.specs.Due.{DueMeans, DueIsOf, DueTells};
@@ -18,8 +21,8 @@ use job_table::{Asking, Purpose};
 use local_names::Locals;
 use mount_model::{AskedCall, Handle, Heard, Owner, Reply, Request, Told, Version, Waiter};
 use mount_plan::{LinePlan, Plan, View, plan};
-use mp_rules::{DirEntry, Question};
-use mp_types::{Data, ETag, Items, Key, KeyFault};
+use mp_rules::{DirEntry, Question, QuestionRef};
+use mp_types::{Data, ETag, Items, Key};
 use part_uploader::Uploader;
 use std::alloc::{AllocError, Global};
 
@@ -51,32 +54,17 @@ pub enum Due {
     NoMemory,
 }
 
-fn key_of(alloc: Global, text: &str) -> Result<Key, AllocError>
-    requires not_empty { 0 < length text.now }
-    requires short { length text.now ≤ 1024 }
-    ensures { IfOk result (λ key. key ≡ text.now) }
-{
-    match Key::parse(alloc, text) {
-        Ok(key) => Ok(key),
-        Err(KeyFault::Memory) => Err(AllocError),
-        Err(KeyFault::Empty) => unreachable!(),
-        Err(KeyFault::TooLong) => unreachable!(),
-    }
-}
-
 fn two_keys(alloc: Global, text: &str) -> Result<(Key, Key), AllocError>
-    requires not_empty { 0 < length text.now }
-    requires short { length text.now ≤ 1024 }
+    requires key { IsKeyText text.now }
     ensures { IfOk result (λ keys. (keys.0 ≡ text.now) × (keys.1 ≡ text.now)) }
 {
-    let key = key_of(alloc, text)?;
+    let key = Key::of(alloc, text)?;
     let told = key.copy(alloc)?;
     Ok((key, told))
 }
 
 fn three_keys(alloc: Global, text: &str) -> Result<(Key, Key, Key), AllocError>
-    requires not_empty { 0 < length text.now }
-    requires short { length text.now ≤ 1024 }
+    requires key { IsKeyText text.now }
     ensures { IfOk result (λ keys. (keys.0 ≡ text.now) × (keys.1 ≡ text.now) × (keys.2 ≡ text.now)) }
 {
     let (key, told) = two_keys(alloc, text)?;
@@ -84,42 +72,35 @@ fn three_keys(alloc: Global, text: &str) -> Result<(Key, Key, Key), AllocError>
     Ok((key, told, asked))
 }
 
-fn probe(alloc: Global, line: u32, owner: Owner, text: &str) -> Due
-    requires not_empty { 0 < length text.now }
-    requires short { length text.now ≤ 1024 }
-    ensures means { DueMeans result owner (Asks (Probe text.now)) }
-    ensures whose { (number : ℕ) (asked : Request) (handle : Option HandleAt) → DueIsOf result number asked handle }
+fn ask(alloc: Global, line: u32, owner: Owner, asked: QuestionRef<'_>) -> Due
+    requires key { IsKeyText (key_in asked) }
+    ensures means { DueMeans result owner (Asks (call_of (as_question asked.entry))) }
+    ensures whose { (number : ℕ) (request : Request) (handle : Option HandleAt) → DueIsOf result number request handle }
     ensures tells { DueTells result line }
 {
-    match three_keys(alloc, text) {
-        Ok((key, told, asked)) => Due::Call(Asking {
-            owner,
-            line,
-            call: Call::Probe { key },
-            asked: AskedCall::Probe { key: told },
-            purpose: Purpose::Question(Question::Probe(asked)),
-        }),
-        Err(_) => Due::NoMemory,
-    }
-}
-
-fn head(alloc: Global, line: u32, owner: Owner, text: &str) -> Due
-    requires not_empty { 0 < length text.now }
-    requires short { length text.now ≤ 1024 }
-    ensures means { DueMeans result owner (Asks (Head text.now)) }
-    ensures whose { (number : ℕ) (asked : Request) (handle : Option HandleAt) → DueIsOf result number asked handle }
-    ensures tells { DueTells result line }
-{
-    match three_keys(alloc, text) {
-        Ok((key, told, asked)) => Due::Call(Asking {
-            owner,
-            line,
-            call: Call::Head { key },
-            asked: AskedCall::Head { key: told },
-            purpose: Purpose::Question(Question::Head(asked)),
-        }),
-        Err(_) => Due::NoMemory,
-    }
+    let (key, told, own) = match three_keys(alloc, asked.key()) {
+        Ok(keys) => keys,
+        Err(_) => return Due::NoMemory,
+    };
+    let (call, told, question) = match asked {
+        QuestionRef::Probe(_) => (
+            Call::Probe { key },
+            AskedCall::Probe { key: told },
+            Question::Probe(own),
+        ),
+        QuestionRef::Head(_) => (
+            Call::Head { key },
+            AskedCall::Head { key: told },
+            Question::Head(own),
+        ),
+    };
+    Due::Call(Asking {
+        owner,
+        line,
+        call,
+        asked: told,
+        purpose: Purpose::Question(question),
+    })
 }
 
 fn page(alloc: Global, line: u32, owner: Owner, path: &str, after: &str, max: u32) -> Due
@@ -174,8 +155,7 @@ fn get(alloc: Global, line: u32, owner: Owner, version: &Version, from: u64, to:
 }
 
 fn delete(alloc: Global, line: u32, owner: Owner, text: &str) -> Due
-    requires not_empty { 0 < length text.now }
-    requires short { length text.now ≤ 1024 }
+    requires key { IsKeyText text.now }
     ensures means { DueMeans result owner (Asks (Delete text.now)) }
     ensures whose { (number : ℕ) (asked : Request) (handle : Option HandleAt) → DueIsOf result number asked handle }
     ensures tells { DueTells result line }
@@ -230,39 +210,36 @@ fn put(alloc: Global, line: u32, owner: Owner, key: &Key, content: &Data) -> Due
 }
 
 fn make_dir(alloc: Global, text: &str) -> Due
-    requires not_empty { 0 < length text.now }
-    requires short { length text.now ≤ 1024 }
+    requires key { IsKeyText text.now }
     ensures means { (owner : Owner) → DueMeans result owner (Makes text.now) }
     ensures whose { (number : ℕ) (asked : Request) (handle : Option HandleAt) → DueIsOf result number asked handle }
     ensures tells { (line : ℕ) → DueTells result line }
 {
-    match key_of(alloc, text) {
+    match Key::of(alloc, text) {
         Ok(key) => Due::MakeDir(key),
         Err(_) => Due::NoMemory,
     }
 }
 
 fn open(alloc: Global, text: &str, etag: ETag, size: u64) -> Due
-    requires not_empty { 0 < length text.now }
-    requires short { length text.now ≤ 1024 }
+    requires key { IsKeyText text.now }
     ensures means { (owner : Owner) → DueMeans result owner (Opens (record { key = text.now; etag = etag; size = size })) }
     ensures whose { (number : ℕ) (asked : Request) (handle : Option HandleAt) → DueIsOf result number asked handle }
     ensures tells { (line : ℕ) → DueTells result line }
 {
-    match key_of(alloc, text) {
+    match Key::of(alloc, text) {
         Ok(key) => Due::Open(Version { key, etag, size }),
         Err(_) => Due::NoMemory,
     }
 }
 
 fn create(alloc: Global, text: &str) -> Due
-    requires not_empty { 0 < length text.now }
-    requires short { length text.now ≤ 1024 }
+    requires key { IsKeyText text.now }
     ensures means { (owner : Owner) → DueMeans result owner (Creates text.now) }
     ensures whose { (number : ℕ) (asked : Request) (handle : Option HandleAt) → DueIsOf result number asked handle }
     ensures tells { (line : ℕ) → DueTells result line }
 {
-    match key_of(alloc, text) {
+    match Key::of(alloc, text) {
         Ok(key) => Due::Create(key),
         Err(_) => Due::NoMemory,
     }
@@ -301,8 +278,7 @@ fn line_due(alloc: Global, line: u32, owner: Owner, plan: LinePlan) -> Due
     ensures tells { DueTells result line }
 {
     match plan {
-        LinePlan::Probe(key) => probe(alloc, line, owner, key),
-        LinePlan::Head(key) => head(alloc, line, owner, key),
+        LinePlan::Ask(asked) => ask(alloc, line, owner, asked),
         LinePlan::Page { path, after, max } => page(alloc, line, owner, path, after, max),
         LinePlan::Get { version, from, to } => get(alloc, line, owner, version, from, to),
         LinePlan::Delete(key) => delete(alloc, line, owner, key.as_str()),

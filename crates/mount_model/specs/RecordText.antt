@@ -1,10 +1,11 @@
 -- The text of a record.
-use Rattle.std.specs.Prelude.{ℕ, ◌+◌, ◌/◌, ◌%◌, List, [], ◌∷◌, ◌++◌, length, flat_map, Bool, not, ◌&&◌, ◌==◌, nat_le, nat_lt, if◌then◌else◌, codes, decimal}
+use Rattle.std.specs.Prelude.{ℕ, ◌+◌, ◌/◌, ◌%◌, List, [], ◌∷◌, ◌++◌, length, flat_map, nat_lt, if◌then◌else◌, codes, decimal}
 use Rattle.hex.specs.Hex.{encode_lower}
 use Rattle.mp_types.specs.declared.errno.Errno.{Errno}
 use Rattle.mp_types.specs.declared.errno.Errno.TheVariants.{Eperm, Enoent, Eio, Ebadf, Enomem, Eexist, Enotdir, Eisdir, Einval, Emfile, Efbig, Enametoolong, Enotempty, Eoverflow, Estale}
 use Rattle.mp_rules.specs.declared.entry.DirEntry.{DirEntry}
 use Rattle.mp_rules.specs.declared.entry.DirEntry.TheVariants as entry
+use Rattle.mp_types.specs.Plain.{is_plain}
 use Rattle.bucket_model.specs.declared.answer.Brief.{Brief}
 use Rattle.bucket_model.specs.declared.answer.Brief.TheVariants as answer
 use Rattle.bucket_model.specs.declared.page.Page.{Page}
@@ -21,10 +22,6 @@ use Rattle.mount_model.specs.declared.event.AskedCall.TheVariants as asked
 use Rattle.mount_model.specs.declared.event.Ask.{Ask}
 use Rattle.mount_model.specs.declared.event.Answered.{Answered}
 use Rattle.mount_model.specs.Step.{Step}
-
--- a byte that stands for itself: printable, and not `%`
-abbrev pub is_plain : ℕ → Bool
-is_plain byte = nat_le 33 byte && nat_le byte 126 && not (byte == 37)
 
 -- a digit in upper-case hexadecimal
 abbrev pub hex_digit : ℕ → ℕ

@@ -8,6 +8,8 @@ use Rattle.hex.specs.declared.error.FromHexError.{FromHexError}
 use Rattle.mp_types.specs.declared.octets.Data.{Data}
 use Rattle.mp_types.specs.declared.octets.Data.TheVariants.{Literal, Pattern}
 use Rattle.mp_types.specs.Content.{bytes_of}
+use Rattle.mp_types.specs.Key.{max_key_length}
+use Rattle.mp_types.specs.Plain.{is_plain}
 use Rattle.mount_model.specs.declared.fault.ScriptCause.{ScriptCause}
 use Rattle.mount_model.specs.declared.fault.ScriptCause.TheVariants as cause
 use Rattle.mount_model.specs.declared.fault.What.{What}
@@ -16,7 +18,6 @@ use Rattle.mount_model.specs.declared.request.Request.{Request}
 use Rattle.mount_model.specs.declared.request.Request.TheVariants as request
 use Rattle.mount_model.specs.declared.request.Request.TheVariants.{Put, Await, Stat, OpenRead, OpenWrite, OpenTruncate, Read, Write, Sync, Close, Delete, MakeDir, RemoveDir, Unlink}
 use Rattle.mount_model.specs.declared.request.Line.{Line}
-use Rattle.mount_model.specs.RecordText.{is_plain}
 
 infixl 10 ◌>>=◌
 abbrev pub ◌>>=◌ : {A B : Type 0} → Result A ScriptCause → (A → Result B ScriptCause) → Result B ScriptCause
@@ -112,7 +113,7 @@ text_of word = do
 abbrev pub key_of : List ℕ → Result (List ℕ) ScriptCause
 key_of word = do
   text ← text_of word
-  if length text == 0 || nat_lt 1024 (length text) then Err cause.Key else Ok text
+  if length text == 0 || nat_lt max_key_length (length text) then Err cause.Key else Ok text
 
 -- data: escaped bytes
 abbrev pub literal_of : List ℕ → Result Data ScriptCause
@@ -268,19 +269,16 @@ abbrev pub count_in : Request → ℕ
 count_in (Read name offset count) = count
 count_in other = 0
 
-abbrev pub bytes_asked : List Line → ℕ
-bytes_asked [] = 0
-bytes_asked (line ∷ lines) = count_in line.request + bytes_asked lines
-
 -- how many bytes a request gives to be stored
 abbrev pub given_in : Request → ℕ
 given_in (Put key content) = length (bytes_of content)
 given_in (Write name offset content) = length (bytes_of content)
 given_in other = 0
 
-abbrev pub bytes_given : List Line → ℕ
-bytes_given [] = 0
-bytes_given (line ∷ lines) = given_in line.request + bytes_given lines
+-- the sum over all lines of what each request counts
+abbrev pub bytes_together : (Request → ℕ) → List Line → ℕ
+bytes_together bytes_in [] = 0
+bytes_together bytes_in (line ∷ lines) = bytes_in line.request + bytes_together bytes_in lines
 
 -- why bytes spell no script
 pub data Refusal : Type 0 where
@@ -290,8 +288,8 @@ pub data Refusal : Type 0 where
 abbrev pub with_sums_checked : Result (List Line) BadLine → Result (List Line) Refusal
 with_sums_checked (Err bad) = Err (Bad bad.line bad.cause)
 with_sums_checked (Ok lines) =
-    if nat_lt max_read_bytes (bytes_asked lines) then Err (TooLong Reads)
-    else (if nat_lt max_given_bytes (bytes_given lines) then Err (TooLong Stored) else Ok lines)
+    if nat_lt max_read_bytes (bytes_together count_in lines) then Err (TooLong Reads)
+    else (if nat_lt max_given_bytes (bytes_together given_in lines) then Err (TooLong Stored) else Ok lines)
 
 -- the count of lines is looked at first, then each line, and then the reads and the data together
 abbrev pub script_of : List ℕ → Result (List Line) Refusal

@@ -1,5 +1,5 @@
 -- The state of the mount after some steps.
-use Rattle.std.specs.Prelude.{ℕ, List, [], ◌∷◌, ◌++◌, length, map, filter, find, fold, ◌&&◌, ◌==◌, not, Bool, true, false, if◌then◌else◌, Option, Some, None, option_map}
+use Rattle.std.specs.Prelude.{◌≡◌, ℕ, ◌+◌, List, [], ◌∷◌, ◌++◌, length, map, filter, find, fold, ◌&&◌, ◌==◌, not, Bool, true, false, if◌then◌else◌, Option, Some, None, option_map}
 use Rattle.std.specs.List.{list_any}
 use Rattle.std.specs.FinMap as table
 use Rattle.mp_types.specs.declared.options.Opts.{Opts}
@@ -51,6 +51,11 @@ pub record Job : Type 0 where
   pub line : ℕ
   pub call : Call
   pub phase : JobPhase
+
+-- the jobs have the numbers from this one on, one after the other
+abbrev pub AreNumbered : ℕ → List Job → Type 0
+AreNumbered number [] = Unit {0}
+AreNumbered number (job ∷ jobs) = (job.number ≡ number) × AreNumbered (number + 1) jobs
 
 -- what all lines see of the mount: its options, the live handles, and the mount's own names
 pub record Shared : Type 0 where

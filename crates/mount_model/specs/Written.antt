@@ -54,8 +54,8 @@ pub record IsMadeAt (log : List Logged) (position : ℕ) (key bytes : List ℕ) 
   pub etag : List ℕ
   pub makes : version_made (replay (take position log)) logged ≡ Some (record { key = key; etag = etag; bytes = bytes })
 
--- some writer made it: it opened a file of this key, and these are all the bytes that it accepted
-pub record IsOfWriter (options : Opts) (script : List Line) (steps : List Step) (key bytes : List ℕ) : Type 0 where
+-- the writer that line `opened` opened was live at some time, for this key
+pub record HasStood (options : Opts) (script : List Line) (steps : List Step) (opened : ℕ) (key : List ℕ) : Type 0 where
   pub before : List Step
   pub later : List Step
   pub are : steps ≡ before ++ later
@@ -63,7 +63,13 @@ pub record IsOfWriter (options : Opts) (script : List Line) (steps : List Step) 
   pub writer : Writer
   pub holds : handle_of line (state_after options script before).shared.handles ≡ Some (Writing writer)
   pub of_key : writer.key ≡ key
-  pub of_bytes : accepted writer.line options script steps ≡ bytes
+  pub of_line : writer.line ≡ opened
+
+-- some writer made it: it opened a file of this key, and these are all the bytes that it accepted
+pub record IsOfWriter (options : Opts) (script : List Line) (steps : List Step) (key bytes : List ℕ) : Type 0 where
+  pub opened : ℕ
+  pub stood : HasStood options script steps opened key
+  pub of_bytes : accepted opened options script steps ≡ bytes
 
 -- each call of these steps is made behind this position
 abbrev pub IsTakenBehind : ℕ → Event → Type 0

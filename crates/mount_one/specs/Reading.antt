@@ -1,7 +1,5 @@
 -- Reading a source to its end.
-use Rattle.std.specs.Prelude.{◌≡◌, ℕ, ◌<◌, ◌≤◌, List, [], ◌++◌, length, Option, Some, None, Result, Ok, Err}
-use Rattle.mount_one.specs.declared.reading.ReadFault.{ReadFault}
-use Rattle.mount_one.specs.declared.reading.ReadFault.TheVariants as fault
+use Rattle.std.specs.Prelude.{◌≡◌, ℕ, ◌<◌, List, [], ◌++◌, length, Option, Some, None}
 
 -- what was read and what is left is all that there was; a source tells what it has left always or never
 abbrev pub Gathers : Option (List ℕ) → List ℕ → Option (List ℕ) → Type 0
@@ -18,10 +16,3 @@ IsSpent (Some left) = left ≡ []
 abbrev pub IsLonger : ℕ → Option (List ℕ) → Type 0
 IsLonger limit None = Unit {0}
 IsLonger limit (Some whole) = limit < length whole
-
--- all the bytes, which are within the limit; or there are more; or the source failed
-abbrev pub ReadsAll : ℕ → Option (List ℕ) → Result (List ℕ) ReadFault → Option (List ℕ) → Type 0 → Type 0
-ReadsAll limit whole (Ok bytes) left failed = Gathers whole bytes left × IsSpent left × (length bytes ≤ limit)
-ReadsAll limit whole (Err fault.TooLong) left failed = IsLonger limit whole
-ReadsAll limit whole (Err fault.Source) left failed = failed
-ReadsAll limit whole (Err fault.Memory) left failed = Unit {0}

@@ -22,6 +22,7 @@ const FIRST: &str = "0 put a thello\n1 await\n1 stat /a\n";
 const FIRST_RECORD: &str =
     "B 1 0\nA 1 L1 put a 5\nT 1 0 0\nD 1 0 made v1\nR 1 made v1\nB 2 0\nR 2 ok\nB 3 0\nA 2 L3 probe a\nT 2 0 1\nD 2 1 no\nA 3 L3 head a\nT 3 0 2\nD 3 2 found v1 5\nR 3 file 5\n";
 
+/// How a run ended, with what stands in its sink.
 #[derive(Drop)]
 pub struct Outcome {
     pub status: Status,
@@ -57,7 +58,7 @@ fn run_with<T: Store>(
     })
 }
 
-// The same over an empty bucket.
+/// One run over an empty bucket, with a clock that stands at 0.
 pub fn run_over(
     alloc: Global,
     words: &[&str],
@@ -68,7 +69,7 @@ pub fn run_over(
     run_with(alloc, words, source, sink, &mut store)
 }
 
-// The lines of a record that tell replies, each with its end.
+/// The lines of a record that tell replies, each with its end.
 pub fn replies_in(alloc: Global, record: &[u8]) -> Result<Vec<u8>, Fail> {
     let mut replies = Vec::new(alloc);
     for line in record.split(|byte| *byte == b'\n') {
@@ -80,7 +81,7 @@ pub fn replies_in(alloc: Global, record: &[u8]) -> Result<Vec<u8>, Fail> {
     Ok(replies)
 }
 
-// Serves a script over this store to its end, and compares its replies.
+/// Serves a script over this store to its end, and compares its replies.
 pub fn assert_replies<T: Store>(
     rt: &impl Abort,
     alloc: Global,
@@ -101,7 +102,7 @@ pub fn assert_replies<T: Store>(
     Ok(())
 }
 
-// The record of a script that was served over this store with these options.
+/// The record of a script that was served over this store with these options.
 pub fn record_with<T: Store>(
     alloc: Global,
     options: Opts,
@@ -124,7 +125,7 @@ pub fn record_with<T: Store>(
     }
 }
 
-// Serves a script over this store with these options, and compares its replies.
+/// Serves a script over this store with these options, and compares its replies.
 pub fn assert_replies_with<T: Store>(
     rt: &impl Abort,
     alloc: Global,
@@ -141,11 +142,13 @@ pub fn assert_replies_with<T: Store>(
     Ok(())
 }
 
+/// A source of these bytes.
 pub fn source_of(alloc: Global, text: &str) -> Result<MemSource, Fail> {
     let bytes = text.as_bytes().to_vec(alloc)?;
     Ok(MemSource::new(bytes, 4096, Vec::new(alloc)))
 }
 
+/// A sink with room for a long record.
 pub fn roomy_sink(alloc: Global) -> Result<MemSink, Fail> {
     Ok(MemSink::new(alloc, 4_194_304, 4096, Vec::new(alloc))?)
 }
@@ -244,6 +247,7 @@ fn one_byte_too_many_is_refused(rt: HostRuntime) -> Result<(), Fail> {
     Ok(())
 }
 
+/// Serves a script that has too much of this, and looks that nothing is written.
 pub fn assert_too_long(
     rt: &impl Abort,
     alloc: Global,

@@ -1,14 +1,16 @@
 -- What a plan says that a line does next.
-use Rattle.std.specs.Prelude.{◌≡◌, ℕ, ◌<◌, ◌≤◌, List, length, Option, None, Some, Ok, option_copied}
+use Rattle.std.specs.Prelude.{◌≡◌, ℕ, ◌<◌, List, Option, None, Some, Ok, option_copied}
 use Rattle.mp_types.specs.Content.{bytes_of}
+use Rattle.mp_types.specs.Key.{IsKeyText}
 use Rattle.mp_types.specs.Path.{path_of}
+use Rattle.mp_rules.specs.QuestionRef.{as_question, key_in}
 use Rattle.listing_rules.specs.Names.{listing_of, prefix_of}
 use Rattle.listing_rules.specs.Pages.{items_of}
 use Rattle.bucket_model.specs.declared.call.Call.TheVariants as call
 use Rattle.mount_model.specs.declared.handle.Handle.TheVariants.{Writing}
 use Rattle.mount_model.specs.declared.standing.Heard.{Heard}
 use Rattle.mount_model.specs.declared.standing.Told.{Told}
-use Rattle.mount_model.specs.Heard.{with_told}
+use Rattle.mount_model.specs.Heard.{call_of, with_told}
 use Rattle.mount_model.specs.Conversation.{Next, Asks, Replies, Makes, Removes, Opens, Creates, Lists, Gives, Waits, pages_in, write_to, sync_next, close_next}
 use Rattle.mount_model.specs.declared.request.Request.{Request}
 use Rattle.mount_model.specs.declared.request.Request.TheVariants as request
@@ -16,27 +18,26 @@ use Rattle.mount_model.specs.Handles.{Handle}
 use Rattle.mount_plan.specs.declared.planned.Plan.{Plan}
 use Rattle.mount_plan.specs.declared.planned.Plan.TheVariants.{Line, Write, Sync, Finish}
 use Rattle.mount_plan.specs.declared.planned.LinePlan.{LinePlan}
-use Rattle.mount_plan.specs.declared.planned.LinePlan.TheVariants.{Probe, Head, Page, Get, Put, Delete, Unlink, Reply, MakeDir, RemoveDir, Open, Create, List as Listing, Give, Wait}
+use Rattle.mount_plan.specs.declared.planned.LinePlan.TheVariants.{Ask, Page, Get, Put, Delete, Unlink, Reply, MakeDir, RemoveDir, Open, Create, List as Listing, Give, Wait}
 
 -- what a line has heard, with its last answer
 abbrev pub with_last : Option Told → Heard → Heard
 with_last None heard = heard
 with_last (Some told) heard = with_told told heard
 
--- keys that stand in a path have 1 to 1,024 bytes, a range that is asked for has at least one, and a path that is listed has no fault
+-- a key that stands in a path is as long as a key may be, a range that is asked for has at least one, and a path that is listed has no fault
 abbrev pub MeansOne : LinePlan → Next → Type 0
-MeansOne (Probe key) next = (next ≡ Asks (call.Probe key.now)) × (0 < length key.now) × (length key.now ≤ 1024)
-MeansOne (Head key) next = (next ≡ Asks (call.Head key.now)) × (0 < length key.now) × (length key.now ≤ 1024)
+MeansOne (Ask asked) next = (next ≡ Asks (call_of (as_question asked))) × IsKeyText (key_in asked)
 MeansOne (Page path after max) next = (names : List (List ℕ)) × (path_of path.now ≡ Ok names) × (next ≡ Asks (call.List (prefix_of names) after.now max))
 MeansOne (Get version from to) next = (next ≡ Asks (call.Get version.now.key version.now.etag from to)) × (from < to)
 MeansOne (Put key content) next = next ≡ Asks (call.Put key.now (bytes_of content.now))
 MeansOne (Delete key) next = next ≡ Asks (call.Delete key.now)
-MeansOne (Unlink key) next = (next ≡ Asks (call.Delete key.now)) × (0 < length key.now) × (length key.now ≤ 1024)
+MeansOne (Unlink key) next = (next ≡ Asks (call.Delete key.now)) × IsKeyText key.now
 MeansOne (Reply said) next = next ≡ Replies said
-MeansOne (MakeDir key) next = (next ≡ Makes key.now) × (0 < length key.now) × (length key.now ≤ 1024)
-MeansOne (RemoveDir key) next = (next ≡ Removes key.now) × (0 < length key.now) × (length key.now ≤ 1024)
-MeansOne (Open key etag size) next = (next ≡ Opens (record { key = key.now; etag = etag; size = size })) × (0 < length key.now) × (length key.now ≤ 1024)
-MeansOne (Create key) next = (next ≡ Creates key.now) × (0 < length key.now) × (length key.now ≤ 1024)
+MeansOne (MakeDir key) next = (next ≡ Makes key.now) × IsKeyText key.now
+MeansOne (RemoveDir key) next = (next ≡ Removes key.now) × IsKeyText key.now
+MeansOne (Open key etag size) next = (next ≡ Opens (record { key = key.now; etag = etag; size = size })) × IsKeyText key.now
+MeansOne (Create key) next = (next ≡ Creates key.now) × IsKeyText key.now
 MeansOne (Listing path heard last own) next = (names : List (List ℕ)) × (path_of path.now ≡ Ok names) × (next ≡ Lists (listing_of (prefix_of names) (items_of (pages_in (with_last (option_copied last) heard.now).answers)) own.now))
 MeansOne (Give count) next = next ≡ Gives count
 MeansOne Wait next = next ≡ Waits

@@ -16,8 +16,8 @@ pub fn last_fact(last: Option<&Told>) -> Option<&Known>
     }
 }
 
-// The last answer, where it told no fact.
-fn last_answer(last: Option<&Told>) -> Option<&Brief>
+/// The last answer, where it told no fact.
+pub fn last_answer(last: Option<&Told>) -> Option<&Brief>
     ensures { option_copied result ≡ last_answer (option_copied last.entry) }
 {
     match last {

@@ -1,12 +1,13 @@
-ghost use Rattle.std.specs.Prelude.{◌≡◌, List, ℕ, [], length, nat_lt, Ok, option_copied};
+ghost use Rattle.std.specs.Prelude.{◌≡◌, ◌+◌, List, ℕ, [], length, nat_lt, Ok, option_copied};
 ghost use Rattle.mp_types.specs.Path.{path_of};
 ghost use Rattle.listing_rules.specs.Names.{prefix_of};
+ghost use Rattle.mount_model.specs.declared.standing.Heard.{Heard as HeardBefore};
 ghost use Rattle.mount_model.specs.Conversation.{View as Sees, asks_page, behind_answer, behind_page, list_at, list_next, max_pages};
 ghost use Rattle.mount_plan.specs.Meant.{MeansOne, with_last};
 ghost use Rattle.mount_plan.specs.Seen.{view_of};
 ghost use Rattle.mount_plan.specs.Unkept.{unkept_errno};
 
-use crate::answered::newest_answer;
+use crate::answered::{last_answer, newest_answer};
 use crate::lookup::{Found, look_up, path_errno};
 use crate::planned::failed;
 use crate::{LinePlan, View};
@@ -18,15 +19,21 @@ use mp_types::{Errno, below_root};
 
 const MAX_PAGES: usize = 10_000;
 
-// Whether fewer answers have come than a listing has pages at most.
-fn may_ask_on(heard: &Heard, last: Option<&Told>) -> bool
-    ensures { result ≡ nat_lt (length (with_last (option_copied last.entry) heard.now).answers) max_pages }
+// How many of the answers that came aren't kept yet.
+fn unkept(last: Option<&Told>) -> usize
+    ensures { (heard : HeardBefore) → length (with_last (option_copied last.entry) heard).answers ≡ length heard.answers + result }
 {
-    let most = match last {
-        Some(Told::Answer(_)) => MAX_PAGES - 1,
-        _ => MAX_PAGES,
-    };
-    heard.answers.len() < most
+    match last_answer(last) {
+        Some(_) => 1,
+        None => 0,
+    }
+}
+
+// Whether fewer answers came than a listing has pages at most: those that are kept, and the others.
+fn may_ask_on(kept: usize, unkept: usize) -> bool
+    ensures { result ≡ nat_lt (kept + unkept) max_pages }
+{
+    kept.saturating_add(unkept) < MAX_PAGES
 }
 
 // A page came last.
@@ -47,7 +54,7 @@ fn page_plan<'a>(
             names: view.names,
         };
     }
-    if !may_ask_on(heard, last) {
+    if !may_ask_on(heard.answers.len(), unkept(last)) {
         return failed(Errno::Eoverflow);
     }
     LinePlan::Page {
@@ -121,7 +128,7 @@ pub fn list_plan<'a>(
 pub fn unkept_errno(heard: &Heard, more: bool) -> Errno
     ensures { result ≡ unkept_errno more heard.now.answers }
 {
-    if more && heard.answers.len() >= MAX_PAGES - 1 {
+    if more && !may_ask_on(heard.answers.len(), 1) {
         return Errno::Eoverflow;
     }
     Errno::Enomem

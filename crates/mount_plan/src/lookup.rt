@@ -1,4 +1,5 @@
 ghost use Rattle.std.specs.Prelude.{◌≡◌, ◌≤◌, true, length, MatchResult, option_copied};
+ghost use Rattle.mp_types.specs.Key.{max_key_length};
 ghost use Rattle.mp_types.specs.Path.{are_names, names_in};
 ghost use Rattle.mount_model.specs.Conversation.{errno_of_path};
 ghost use Rattle.mount_plan.specs.Looked.{IsFound, IsShort};
@@ -40,7 +41,7 @@ pub fn look_up<'a>(
     last: Option<&Told>,
 ) -> Result<Found, LinePlan<'a>>
     requires names { are_names (names_in below.now) ≡ true }
-    requires short { length below.now ≤ 1024 }
+    requires short { length below.now ≤ max_key_length }
     ensures { let all = with_last (option_copied last.entry) heard.now in
         MatchResult result (λ found. IsFound below.now (view_of view.now) all found) (λ plan. IsShort below.now (view_of view.now) all plan) }
 {
@@ -51,8 +52,7 @@ pub fn look_up<'a>(
         return Err(failed(errno_of(answer)));
     }
     match decide(below, view.names, &heard.facts, last_fact(last)) {
-        Decision::Probe(key) => Err(LinePlan::Probe(key)),
-        Decision::Head(key) => Err(LinePlan::Head(key)),
+        Decision::Ask(asked) => Err(LinePlan::Ask(asked)),
         Decision::Is(entry) => Ok(Found::Entry(entry)),
         Decision::Refused(errno) => Err(failed(errno)),
     }

@@ -1,6 +1,7 @@
-ghost use Rattle.std.specs.Prelude.{◌<◌, ◌≤◌, length, option_copied};
+ghost use Rattle.std.specs.Prelude.{option_copied};
+ghost use Rattle.mp_types.specs.Key.{IsKeyText};
 ghost use Rattle.mp_types.specs.Path.{path_of};
-ghost use Rattle.mount_model.specs.Conversation.{create_at, open_at, open_next};
+ghost use Rattle.mount_model.specs.Conversation.{Next, create_at, open_at, open_next, opens_if};
 ghost use Rattle.mount_plan.specs.Meant.{MeansOne, with_last};
 ghost use Rattle.mount_plan.specs.Opened.{opened_at};
 ghost use Rattle.mount_plan.specs.Seen.{view_of};
@@ -22,37 +23,42 @@ pub enum Mode {
     Truncate,
 }
 
+// A handle is opened while fewer than the most are live.
+fn opens_if(live: usize, opened: LinePlan<'_>) -> LinePlan<'_>
+    ensures { (next : Next) → MeansOne opened.entry next → MeansOne result (opens_if live next) }
+{
+    if live == MAX_HANDLES {
+        return failed(Errno::Emfile);
+    }
+    opened
+}
+
 fn reader_plan(key: &str, live: usize, entry: Entry) -> LinePlan<'_>
-    requires some { 0 < length key.now }
-    requires short { length key.now ≤ 1024 }
+    requires key { IsKeyText key.now }
     ensures { MeansOne result (open_at live key.now entry) }
 {
     match entry {
         Entry::RemoteDir | Entry::LocalDir => failed(Errno::Eisdir),
         Entry::LocalFile { .. } => failed(Errno::Eperm),
-        Entry::File { .. } if live == MAX_HANDLES => failed(Errno::Emfile),
-        Entry::File { etag, size } => LinePlan::Open { key, etag, size },
+        Entry::File { etag, size } => opens_if(live, LinePlan::Open { key, etag, size }),
         Entry::Nothing => failed(Errno::Enoent),
     }
 }
 
 fn writer_plan(key: &str, may_overwrite: bool, live: usize, entry: Entry) -> LinePlan<'_>
-    requires some { 0 < length key.now }
-    requires short { length key.now ≤ 1024 }
+    requires key { IsKeyText key.now }
     ensures { MeansOne result (create_at may_overwrite live key.now entry) }
 {
     match entry {
         Entry::RemoteDir | Entry::LocalDir => failed(Errno::Eisdir),
         Entry::LocalFile { .. } => failed(Errno::Eperm),
         Entry::File { .. } if !may_overwrite => failed(Errno::Eperm),
-        Entry::File { .. } | Entry::Nothing if live == MAX_HANDLES => failed(Errno::Emfile),
-        Entry::File { .. } | Entry::Nothing => LinePlan::Create { key },
+        Entry::File { .. } | Entry::Nothing => opens_if(live, LinePlan::Create { key }),
     }
 }
 
 fn entry_plan<'a>(key: &'a str, mode: Mode, view: &View<'_>, entry: Entry) -> LinePlan<'a>
-    requires some { 0 < length key.now }
-    requires short { length key.now ≤ 1024 }
+    requires key { IsKeyText key.now }
     ensures { MeansOne result (opened_at view.now.options mode view.now.live key.now entry) }
 {
     match mode {

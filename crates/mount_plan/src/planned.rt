@@ -2,6 +2,7 @@ ghost use Rattle.std.specs.Prelude.{◌≡◌};
 
 use local_names::Locals;
 use mount_model::{Heard, Reply, Told, Version, Writer};
+use mp_rules::QuestionRef;
 use mp_types::{Data, ETag, Errno, Key};
 use part_uploader::Uploader;
 
@@ -30,10 +31,8 @@ pub enum Plan<'a> {
 /// What a line does next by itself.
 #[derive(Drop)]
 pub enum LinePlan<'a> {
-    /// It asks whether the path of this key, of 1 to 1,024 bytes, is a directory.
-    Probe(&'a str),
-    /// It asks whether a file stands at this key, of 1 to 1,024 bytes.
-    Head(&'a str),
+    /// It asks this about a key of 1 to 1,024 bytes.
+    Ask(QuestionRef<'a>),
     /// It asks for a page of at most `max` items of the directory at this path, which has no fault, behind a text.
     Page {
         path: &'a str,

@@ -1,4 +1,5 @@
-ghost use Rattle.std.specs.Prelude.{◌<◌, ◌≤◌, length, option_copied};
+ghost use Rattle.std.specs.Prelude.{option_copied};
+ghost use Rattle.mp_types.specs.Key.{IsKeyText};
 ghost use Rattle.mp_types.specs.Path.{path_of};
 ghost use Rattle.mount_model.specs.Conversation.{remove_at, remove_next};
 ghost use Rattle.mount_plan.specs.Meant.{MeansOne, with_last};
@@ -13,8 +14,7 @@ use mp_rules::Entry;
 use mp_types::{Errno, below_root};
 
 fn entry_plan<'a>(key: &'a str, names: &Locals, entry: Entry) -> LinePlan<'a>
-    requires some { 0 < length key.now }
-    requires short { length key.now ≤ 1024 }
+    requires key { IsKeyText key.now }
     ensures { MeansOne result (remove_at names.now key.now entry) }
 {
     match entry {

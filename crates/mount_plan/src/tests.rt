@@ -2,7 +2,7 @@ use super::*;
 use bucket_model::{Brief, Page, PageItem};
 use local_names::Locals;
 use mount_model::{Handle, Heard, Reply, Request, Told, Version};
-use mp_rules::{Fact, Known, Question};
+use mp_rules::{Fact, Known, Question, QuestionRef};
 use mp_types::{Data, ETag, Errno, Key, MAX_HANDLES, Opts, Shared, Text};
 use part_uploader::Uploader;
 use std::alloc::Global;
@@ -174,11 +174,11 @@ fn fails(plan: Plan, errno: Errno) -> bool {
 }
 
 fn asks_probe(plan: Plan, key: &str) -> bool {
-    matches!(plan, Plan::Line(LinePlan::Probe(asked)) if asked == key)
+    matches!(plan, Plan::Line(LinePlan::Ask(QuestionRef::Probe(asked))) if asked == key)
 }
 
 fn asks_head(plan: Plan, key: &str) -> bool {
-    matches!(plan, Plan::Line(LinePlan::Head(asked)) if asked == key)
+    matches!(plan, Plan::Line(LinePlan::Ask(QuestionRef::Head(asked))) if asked == key)
 }
 
 fn asks_page(plan: Plan, of: &str, behind: &str) -> bool {

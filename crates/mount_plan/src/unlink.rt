@@ -1,4 +1,5 @@
-ghost use Rattle.std.specs.Prelude.{◌≡◌, ◌<◌, ◌≤◌, length, option_copied};
+ghost use Rattle.std.specs.Prelude.{◌≡◌, option_copied};
+ghost use Rattle.mp_types.specs.Key.{IsKeyText};
 ghost use Rattle.mp_types.specs.Path.{path_of};
 ghost use Rattle.mount_model.specs.Conversation.{unlink_at, unlink_next};
 ghost use Rattle.mount_plan.specs.Gone.{is_gone};
@@ -21,8 +22,7 @@ fn is_gone(answer: Option<&Brief>) -> bool
 }
 
 fn entry_plan(key: &str, may_delete: bool, entry: Entry) -> LinePlan<'_>
-    requires some { 0 < length key.now }
-    requires short { length key.now ≤ 1024 }
+    requires key { IsKeyText key.now }
     ensures { MeansOne result (unlink_at may_delete key.now entry) }
 {
     match entry {

@@ -1,6 +1,7 @@
 -- What a longer history leaves as it was.
 use Rattle.std.proofs.Common.{◌≡◌, ℕ, Bool, true, false, List, [], ◌∷◌, ◌++◌, Option, Some, None, sym, subst, append-nil, append_assoc, length-append}
 use Rattle.mp_types.specs.declared.options.Opts.{Opts}
+use Rattle.mp_types.proofs.Lists.{slice_get-seam}
 use Rattle.bucket_model.specs.declared.call.Call.{Call}
 use Rattle.bucket_model.specs.declared.answer.Answer.{Answer}
 use Rattle.bucket_model.specs.declared.answer.Brief.{Brief}
@@ -17,7 +18,7 @@ use Rattle.mount_model.specs.Tied.{HasEntry}
 use Rattle.mp_driver.specs.declared.held.HeldAnswer.{HeldAnswer}
 use Rattle.mp_driver.specs.Drive.{ReadsOver}
 use Rattle.mp_driver.proofs.Between.{IsMore, Grows, HasToldEntry, IsOwed}
-use Rattle.mp_driver.proofs.Positions.{slice_get-more, slice_get-seam}
+use Rattle.mp_driver.proofs.Positions.{slice_get-more}
 use Rattle.mp_driver.proofs.Versions.{AreReads-more, IsSlice-more}
 
 -- each call only adds

@@ -24,9 +24,6 @@ job_at-change n p jobs j is = change_at-same job_number (in_phase p) (λ job. re
 pub job_at-other : (n m : ℕ) (p : JobPhase) (jobs : List Job) → m ≢ n → job_at m (change_job n p jobs) ≡ job_at m jobs
 job_at-other n m p jobs other = change_at-other job_number (in_phase p) (λ job. refl) n m jobs other
 
-pub job_at-more : (n : ℕ) (jobs more : List Job) (j : Job) → job_at n jobs ≡ Some j → job_at n (jobs ++ more) ≡ Some j
-job_at-more n jobs more j is = rw (find-append, is) refl
-
 -- a job that may be taken stands
 abbrev pub Stands : ℕ → List Job → Type 0
 Stands n jobs = (j : Job) × (job_at n jobs ≡ Some j)

@@ -13,24 +13,11 @@ is_among-more n (x ∷ xs) ys h = or_more (eqb x n) (is_among n xs) (is_among n 
     or_more true c d more h = refl
     or_more false c d more h = more h
 
-pub is_among-last : (n : ℕ) (xs : List ℕ) → is_among n (xs ++ n ∷ []) ≡ true
-is_among-last n [] = let e : eqb n n ≡ true = eq-eqb n n refl in rw e refl
-is_among-last n (x ∷ xs) = or_last (eqb x n) (is_among n (xs ++ n ∷ [])) (is_among-last n xs)
-  where
-    or_last : (b c : Bool) → c ≡ true → (b || c) ≡ true
-    or_last true c h = refl
-    or_last false c h = h
-
 -- an item stays at its place when more come behind
 pub slice_get-more : {X : Type 0} (xs ys : List X) (i : ℕ) (x : X) → slice_get xs i ≡ Some x → slice_get (xs ++ ys) i ≡ Some x
 slice_get-more [] ys i x h = absurd (cc)
 slice_get-more (z ∷ xs) ys zero x h = h
 slice_get-more (z ∷ xs) ys (suc i) x h = slice_get-more xs ys i x h
-
--- the item at a seam
-pub slice_get-seam : {X : Type 0} (xs ys : List X) (x : X) → slice_get (xs ++ x ∷ ys) (length xs) ≡ Some x
-slice_get-seam [] ys x = refl
-slice_get-seam (z ∷ xs) ys x = slice_get-seam xs ys x
 
 -- an item of a longer list stands in its front or behind it
 pub slice_get-where : {X : Type 0} (xs ys : List X) (i : ℕ) (x : X) → slice_get (xs ++ ys) i ≡ Some x → (slice_get xs i ≡ Some x) ⊎ ((length xs ≤ i) × (slice_get ys (i - length xs) ≡ Some x))
@@ -50,7 +37,3 @@ not_among-below n bound (x ∷ xs) h below = grind (arith, not_among-below n bou
 pub below-more : (bound more : ℕ) (xs : List ℕ) → bound ≤ more → AllByRecursion (λ x. x < bound) xs → AllByRecursion (λ x. x < more) xs
 below-more bound more [] h below = tt
 below-more bound more (x ∷ xs) h below = (omega (arith, below.0), below-more bound more xs h below.1)
-
-pub All-push : {X : Type 0} (P : X → Type 0) (xs : List X) (x : X) → AllByRecursion P xs → P x → AllByRecursion P (xs ++ x ∷ [])
-All-push P [] x all here = (here, tt)
-All-push P (y ∷ xs) x all here = (all.0, All-push P xs x all.1 here)

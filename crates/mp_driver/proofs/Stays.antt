@@ -10,12 +10,13 @@ use Rattle.mount_model.specs.Conversation.{Next, Asks, Replies, Makes, Removes, 
 use Rattle.mount_model.specs.Handles.{Writer}
 use Rattle.mount_model.specs.Writers.{Asking, first_asks, has_failed, asking_for}
 use Rattle.upload_rules.specs.declared.upload.UpAsk.TheVariants.{Abort}
-use Rattle.mount_model.specs.State.{ClientState, Job, JobPhase, Ready, Out, Gone, Turn, TurnOf, TurnOfWriter, NoTurn, after, job_at, jobs_at, change_job, in_phase, is_ready_for, ready_for, jobs_made, jobs_asked, jobs_of_line, jobs_of_writer, calls_in, calls_of, gives_up, behind_asks, behind_drops, turn_at}
+use Rattle.mount_model.specs.State.{ClientState, Job, JobPhase, Ready, Out, Gone, Turn, TurnOf, TurnOfWriter, NoTurn, after, job_at, jobs_at, change_job, in_phase, is_ready_for, ready_for, jobs_made, jobs_asked, jobs_of_line, jobs_of_writer, calls_in, calls_of, gives_up, behind_asks, behind_drops, turn_at, AreNumbered}
 use Rattle.mount_model.specs.Run.{IsLegalStep, TakesTurn, TakesTurnOfLine, TakesTurnOfWriter, jobs_called}
-use Rattle.run_laws.specs.Alive.{AreNumbered, IsAlive}
+use Rattle.run_laws.specs.Alive.{IsAlive}
 use Rattle.run_laws.proofs.Alive.{alive-step}
 use Rattle.run_laws.proofs.Jobs.{Rises-jobs}
 use Rattle.run_laws.proofs.Dropped.{drop_one, if_dropped, dropped, dropped-is}
+use Rattle.write_laws.proofs.Found.{found-front}
 
 -- what a step drops: nothing, or the ready jobs of a writer, also the first of those that the step asks for
 pub data Drops (jobs asked : List Job) (drops : List ℕ) : Type 0 where
@@ -101,18 +102,15 @@ kept opened n from (first ∷ jobs) job is out = go (first.number == n) refl is 
         ap (λ (t : Bool). cond t (Some (if_dropped opened first)) (job_at n (dropped opened jobs))) (number ∙ e) ∙ ap Some (kept-one opened n from first (ap (λ (j : Job). j.phase) same ∙ out) ∙ same)
     go false e is ih = ap (λ (t : Bool). cond t (Some (if_dropped opened first)) (job_at n (dropped opened jobs))) (number ∙ e) ∙ ih is out
 
-found-more : (n : ℕ) (jobs more : List Job) (job : Job) → job_at n jobs ≡ Some job → job_at n (jobs ++ more) ≡ Some job
-found-more n jobs more job is = rw (find-append, is) refl
-
 stays-drops : (n from : ℕ) (jobs asked : List Job) (drops : List ℕ) (job : Job) → AreNumbered 1 (jobs ++ asked) → Drops jobs asked drops → job_at n jobs ≡ Some job → job.phase ≡ Out from → job_at n (fold drop_one (jobs ++ asked) drops) ≡ Some job
-stays-drops n from jobs asked drops job numbered (NoDrops none) is out = ap (λ (d : List ℕ). job_at n (fold drop_one (jobs ++ asked) d)) none ∙ found-more n jobs asked job is
+stays-drops n from jobs asked drops job numbered (NoDrops none) is out = ap (λ (d : List ℕ). job_at n (fold drop_one (jobs ++ asked) d)) none ∙ found-front n jobs asked job is
 stays-drops n from jobs asked drops job numbered (DropsOf opened first more asked_is drops_are) is out =
     let whole : jobs ++ asked ≡ (jobs ++ first) ++ more = ap (λ (a : List Job). jobs ++ a) asked_is ∙ sym (append_assoc jobs first more) in
     let left : fold drop_one (jobs ++ asked) drops ≡ dropped opened (jobs ++ first) ++ more =
     ap (fold drop_one (jobs ++ asked)) drops_are
     ∙ ap (λ (all : List Job). fold drop_one all (ready_for opened (jobs ++ first))) whole
     ∙ dropped-is 0 opened (jobs ++ first) more (Rises-jobs 0 ((jobs ++ first) ++ more) (subst (AreNumbered 1) whole numbered)) in
-    ap (job_at n) left ∙ found-more n (dropped opened (jobs ++ first)) more job (kept opened n from (jobs ++ first) job (found-more n jobs first job is) out)
+    ap (job_at n) left ∙ found-front n (dropped opened (jobs ++ first)) more job (kept opened n from (jobs ++ first) job (found-front n jobs first job is) out)
 
 pub out_stays : (state : ClientState) (step : Step) (n from : ℕ) (job : Job) → IsAlive state → IsLegalStep state step → job_at n (jobs_at state.jobs step.event) ≡ Some job → job.phase ≡ Out from → job_at n (after state step).jobs ≡ Some job
 out_stays state step n from job alive legal is out =

@@ -18,12 +18,13 @@ use Rattle.mount_model.specs.Step.{Step}
 use Rattle.mount_model.specs.State.{ClientState, Job, opening, after, state_after, job_at, positions_after}
 use Rattle.mount_model.specs.Run.{is_among}
 use Rattle.mount_model.specs.Tied.{TiesEvent}
+use Rattle.write_laws.proofs.Accepted.{among-last}
 use Rattle.mp_driver.specs.declared.held.HeldAnswer.{HeldAnswer}
 use Rattle.mp_driver.specs.Drive.{IsTiedTo}
 use Rattle.mp_driver.specs.Held.{answer_for, IsWith}
 use Rattle.mp_driver.proofs.Between.{HasToldEntry, IsPlaced, IsTiedSoFar, IsTiedToSoFar}
 use Rattle.mp_driver.proofs.Growth.{HasEntry-more}
-use Rattle.mp_driver.proofs.Positions.{slice_get-where, is_among-more, is_among-last}
+use Rattle.mp_driver.proofs.Positions.{slice_get-where, is_among-more}
 use Rattle.mp_driver.proofs.Versions.{Along-more}
 
 TiesEvent-more : (start : ℕ) (log more : List Logged) (state : ClientState) (event : Event) → TiesEvent start log state event → TiesEvent start (log ++ more) state event
@@ -67,7 +68,7 @@ placed-done got less more positions number p with (inr at) = elim (in_more got l
   | inl own ↦
       let counted : is_counted (brief_of got.answer) ≡ true = ap (λ (h : HeldAnswer). is_counted (brief_of h.answer)) (sym own.1) ∙ at.counted in
       let place : p ≡ got.position = sym at.at ∙ ap (λ (h : HeldAnswer). h.position) own.1 in
-      inl (rw (counted, place) (is_among-last got.position positions))
+      inl (rw (counted, place) (among-last got.position positions))
   | inr other ↦ inr (record { got = at.got; stands = other.1; counted = at.counted; at = at.at })
 ]
 

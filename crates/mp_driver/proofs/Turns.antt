@@ -1,6 +1,7 @@
 -- What a line's begin, a job's take with its call, and a job's end leave between two turns.
 use Rattle.std.proofs.Common.{◌≡◌, ◌≢◌, ℕ, ◌<◌, ◌≤◌, Bool, true, false, ◌==◌, ◌||◌, if◌then◌else◌, List, [], ◌∷◌, ◌++◌, fold, Option, Some, None, refl, sym, ap, ◌∙◌, subst, inl, inr, arith, ne_eqb, append-nil}
 use Rattle.mp_types.specs.declared.options.Opts.{Opts}
+use Rattle.mp_types.proofs.Lists.{each-push}
 use Rattle.std.specs.List.{AllByRecursion}
 use Rattle.bucket_model.specs.declared.call.Call.{Call}
 use Rattle.bucket_model.specs.Answers.{brief_of, bytes_in, fits, is_counted}
@@ -21,7 +22,7 @@ use Rattle.run_laws.proofs.Dropped.{drop_one}
 use Rattle.mp_driver.specs.declared.held.HeldAnswer.{HeldAnswer}
 use Rattle.mp_driver.specs.Drive.{ReadsOver}
 use Rattle.mp_driver.specs.Held.{IsWith}
-use Rattle.mp_driver.proofs.Positions.{not_among-below, below-more, All-push}
+use Rattle.mp_driver.proofs.Positions.{not_among-below, below-more}
 use Rattle.mp_driver.proofs.ByJob.{answer_for-job}
 use Rattle.mp_driver.proofs.Between.{HasToldEntry, IsOwed, IsBetween}
 use Rattle.mp_driver.proofs.Growth.{grows-none, owed-more, reads-more, tells-grow, tells-entry}
@@ -166,7 +167,7 @@ not_among-push true n position positions none other = go positions none
         by_test false c d none later = later none
 
 behind-done : (b : Bool) (position bound : ℕ) (positions : List ℕ) → (b ≡ true → position < bound) → AllByRecursion (λ p. p < bound) positions → AllByRecursion (λ p. p < bound) (if b then positions ++ position ∷ [] else positions)
-behind-done true position bound positions below all = All-push (λ p. p < bound) positions position all (below refl)
+behind-done true position bound positions below all = each-push (λ p. p < bound) positions position all (below refl)
 behind-done false position bound positions below all = all
 
 pub done-at : (told : Option History) (position start : ℕ) (is_alone : Type 0) (got : HeldAnswer) (less more : List HeldAnswer) (options : Opts) (script : List Line) (steps : List Step) (drops : List ℕ) (asks : List Ask) (replies : List Answered) →

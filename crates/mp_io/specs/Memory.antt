@@ -1,11 +1,8 @@
 -- What sources and sinks in memory answer to a call, and what they are after it.
-use Rattle.std.specs.Prelude.{ℕ, ◌+◌, ◌-◌, ◌^◌, min, Bool, not, ◌&&◌, ◌||◌, ◌==◌, nat_eq, if◌then◌else◌, List, ◌++◌, length, take, drop, Result, Ok, Err}
+use Rattle.std.specs.Prelude.{ℕ, ◌-◌, min, Bool, not, ◌&&◌, ◌||◌, ◌==◌, nat_eq, if◌then◌else◌, List, ◌++◌, length, take, drop, Result, Ok, Err}
 use Rattle.std.specs.List.{list_any}
+use Rattle.mp_types.specs.Count.{risen}
 use Rattle.mp_io.specs.declared.source.Failed.{Failed}
-
--- one more; it stays at the greatest u64 once there
-abbrev pub risen : ℕ → ℕ
-risen count = min (count + 1) (2 ^ 64 - 1)
 
 -- after so many calls, the next one is among those that fail; calls are counted from 1
 abbrev pub fails_next : List ℕ → ℕ → Bool

@@ -1,6 +1,6 @@
 ghost use Rattle.std.specs.Prelude.{◌≡◌, ◌<◌, length};
 ghost use Rattle.mp_io.specs.Bytes.{Gives};
-ghost use Rattle.mp_io.specs.Memory.{risen};
+ghost use Rattle.mp_types.specs.Count.{risen};
 ghost use Rattle.mp_io.specs.Readings.{reading_after, told_by};
 
 use crate::clock::Clock;

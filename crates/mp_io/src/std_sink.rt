@@ -2,7 +2,7 @@ ghost use Rattle.mp_types.specs.Count.{HasRisen};
 ghost use Rattle.std.specs.Prelude.{◌≡◌, ◌<◌, ◌≤◌, length, None, if◌then◌else◌, is_ok, IfOk, OnErr};
 ghost use Rattle.std.specs.Io.KnownBytes.{WriteAppends};
 ghost use Rattle.mp_io.specs.Bytes.{Writes};
-ghost use Rattle.mp_io.specs.Memory.{risen};
+ghost use Rattle.mp_types.specs.Count.{risen};
 
 use crate::sink::Sink;
 use crate::source::Failed;

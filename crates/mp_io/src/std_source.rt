@@ -2,7 +2,7 @@ ghost use Rattle.mp_types.specs.Count.{HasRisen};
 ghost use Rattle.std.specs.Prelude.{◌≡◌, ◌≤◌, length, None, if◌then◌else◌, is_ok, IfOk, OnErr};
 ghost use Rattle.std.specs.Io.KnownBytes.{ReadConsumes};
 ghost use Rattle.mp_io.specs.Bytes.{Reads};
-ghost use Rattle.mp_io.specs.Memory.{risen};
+ghost use Rattle.mp_types.specs.Count.{risen};
 
 use crate::source::{Failed, Source};
 use std::io::Read;

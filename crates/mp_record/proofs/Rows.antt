@@ -5,14 +5,11 @@ use Rattle.std.proofs.lemmas.List.{get_or_at}
 use Rattle.bucket_model.specs.Along.{Along}
 use Rattle.mount_model.specs.declared.record.Item.{Item}
 use Rattle.mount_model.specs.declared.record.Item.TheVariants as item
-use Rattle.mount_model.specs.Step.{Step, step_of, with_drop, with_ask, with_reply, change_last, with_item, MayFollow, HasStep, IsRow}
-use Rattle.mount_model.proofs.Order.{change_last-push}
+use Rattle.mount_model.specs.Step.{Step, step_of, with_drop, with_ask, with_reply, with_item, MayFollow, HasStep, IsRow}
+use Rattle.mount_model.proofs.Steps.{HasStep-change_last}
 use Rattle.mp_record.specs.Rows.{is_event, goes_on, SplitsStep}
 
 -- ---- where there is a step, anything may follow
-
-HasStep-change_last : (f : Step → Step) (steps : List Step) → HasStep steps → HasStep (change_last f steps)
-HasStep-change_last f steps has = record { before = has.before; last = f has.last; are = ap (change_last f) has.are ∙ change_last-push f has.before has.last }
 
 HasStep-with_item : (steps : List Step) (item : Item) → HasStep steps → HasStep (with_item steps item)
 HasStep-with_item steps (item.Event event) has = record { before = steps; last = step_of event; are = refl }

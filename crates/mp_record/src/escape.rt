@@ -1,14 +1,10 @@
 ghost use Rattle.std.specs.Prelude.{◌≡◌, ◌++◌, ◌<◌, flat_map, OnOk};
 ghost use Rattle.std.specs.List.{list_all};
-ghost use Rattle.mount_model.specs.RecordText.{is_plain, hex_digit, escaped_byte, escaped};
+ghost use Rattle.mp_types.specs.Plain.{is_plain};
+ghost use Rattle.mount_model.specs.RecordText.{hex_digit, escaped_byte, escaped};
 
+use mp_types::is_plain;
 use std::alloc::AllocError;
-
-fn is_plain(byte: u8) -> bool
-    ensures { result ≡ is_plain byte }
-{
-    byte >= 33 && byte <= 126 && byte != b'%'
-}
 
 fn are_plain(text: &[u8]) -> bool
     ensures { result ≡ list_all is_plain text.now }

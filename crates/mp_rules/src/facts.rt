@@ -1,5 +1,6 @@
-ghost use Rattle.std.specs.Prelude.{◌≡◌, [], ◌∷◌, ◌++◌, None, IfOk, OnOk, OnErr};
+ghost use Rattle.std.specs.Prelude.{◌≡◌, [], ◌∷◌, ◌++◌, None, OnOk, OnErr};
 ghost use Rattle.std.specs.List.{list_any};
+ghost use Rattle.mp_rules.specs.QuestionRef.{as_question, key_in};
 ghost use Rattle.mp_rules.specs.Walk.{AreDistinct, fact_in, is_question, with_known};
 
 use mp_types::{ETag, Items, Key};
@@ -13,6 +14,15 @@ pub enum Question {
     Head(Key),
     /// Whether some key lies below this one: ListObjectsV2 of one item, with the key and a `/` as its prefix.
     Probe(Key),
+}
+
+/// A question about a key that stands in a text of someone else.
+#[derive(Clone, Copy, Debug)]
+pub enum QuestionRef<'a> {
+    /// Which object stands at the key.
+    Head(&'a str),
+    /// Whether some key lies below this one.
+    Probe(&'a str),
 }
 
 /// What the bucket answered to a question.
@@ -53,18 +63,6 @@ impl Model for OwnFacts {
     ghost invariant = { λ a. AreDistinct a.known };
 }
 
-impl Question {
-    /// An equal question.
-    pub fn copy(&self, alloc: Global) -> Result<Self, AllocError>
-        ensures { IfOk result (λ copied. copied ≡ self.now) }
-    {
-        match self {
-            Question::Head(key) => Ok(Question::Head(key.copy(alloc)?)),
-            Question::Probe(key) => Ok(Question::Probe(key.copy(alloc)?)),
-        }
-    }
-}
-
 impl Fact {
     /// An equal fact. Takes no memory.
     pub fn copy(&self) -> Self
@@ -82,16 +80,36 @@ impl Fact {
     }
 }
 
-impl Question {
-    /// Whether the two ask the same.
-    pub fn is(&self, other: &Question) -> bool
-        ensures { result ≡ is_question self.now other.now }
+impl<'a> QuestionRef<'a> {
+    /// The key that it asks about.
+    pub fn key(self) -> &'a str
+        ensures { result.now ≡ key_in self.entry }
     {
-        match (self, other) {
-            (Question::Head(key), Question::Head(other)) => key.as_str() == other.as_str(),
-            (Question::Probe(key), Question::Probe(other)) => key.as_str() == other.as_str(),
-            (Question::Head(_), Question::Probe(_)) | (Question::Probe(_), Question::Head(_)) =>
-                false,
+        match self {
+            QuestionRef::Head(key) | QuestionRef::Probe(key) => key,
+        }
+    }
+}
+
+impl Question {
+    fn lent(&self) -> QuestionRef<'_>
+        ensures { as_question result ≡ self.now }
+    {
+        match self {
+            Question::Head(key) => QuestionRef::Head(key.as_str()),
+            Question::Probe(key) => QuestionRef::Probe(key.as_str()),
+        }
+    }
+
+    /// Whether it asks this.
+    pub fn is(&self, asked: QuestionRef<'_>) -> bool
+        ensures { result ≡ is_question (as_question asked.entry) self.now }
+    {
+        match (asked, self) {
+            (QuestionRef::Head(key), Question::Head(own)) => key == own.as_str(),
+            (QuestionRef::Probe(key), Question::Probe(own)) => key == own.as_str(),
+            (QuestionRef::Head(_), Question::Probe(_)) => false,
+            (QuestionRef::Probe(_), Question::Head(_)) => false,
         }
     }
 }
@@ -100,7 +118,8 @@ impl Question {
 fn is_answered(known: &[Known], question: &Question) -> bool
     ensures { result ≡ list_any (λ k. is_question question.now k.question) known.now }
 {
-    known.iter().any(|known| question.is(&known.question))
+    let asked = question.lent();
+    known.iter().any(|known| known.question.is(asked))
 }
 
 impl OwnFacts {

@@ -1,6 +1,6 @@
 //! The rules of a file system over a bucket: which names there are, which key a path has, what stands below what,
 //! what hides what, and in which order names come.
-//! Nothing here knows of requests, of the bucket's calls or of records. Only `key_of` takes memory.
+//! Nothing here knows of requests, of the bucket's calls or of records. Only `key_of`, and a fact that is kept, take memory.
 #![tactic(auto)]
 
 mod entry;
@@ -9,9 +9,9 @@ mod keys;
 mod names;
 
 pub use entry::{DirEntry, Entry, Kind, Local, entry_of};
-pub use facts::{Fact, Known, OwnFacts, Question};
+pub use facts::{Fact, Known, OwnFacts, Question, QuestionRef};
 pub use keys::{below, key_of};
-pub use names::{name_order, names_are_ordered, valid_name};
+pub use names::{name_order, names_are_ordered};
 
 #[cfg(test)]
 mod tests;

@@ -1,18 +1,10 @@
 ghost use Rattle.std.specs.Prelude.{◌≡◌, List, ℕ};
 ghost use Rattle.std.specs.declared.cmp.Ordering.TheVariants.{Equal};
 ghost use Rattle.std.specs.Cmp.{IsTotalOrder};
-ghost use Rattle.mp_types.specs.Path.{is_valid_name};
 ghost use Rattle.mp_rules.specs.Names.{name_cmp};
 
 use std::cmp::Ordering;
 use std::iter::once;
-
-/// Whether a text is a name that a path may have.
-pub fn valid_name(text: &str) -> bool
-    ensures { result ≡ is_valid_name text.now }
-{
-    mp_types::is_name(text)
-}
 
 /// The order of two names in a listing: that of their bytes, each followed by a `/`. It is the order in which the
 /// bucket has the keys below them, where they are directories.

@@ -3,7 +3,7 @@ use Rattle.std.proofs.Common.{◌≡◌, ℕ, ◌+◌, ◌*◌, Bool, true, fals
 use Rattle.std.specs.Prelude.{is_some, unwrap_or, MatchResult}
 use Rattle.std.specs.List.{list_all}
 use Rattle.std.specs.Str.{IsUtf8, is_utf8}
-use Rattle.std.proofs.lemmas.Bool.{false_from_ne_true}
+use Rattle.std.proofs.lemmas.Bool.{false_from_ne_true, and_parts}
 use Rattle.std.proofs.lemmas.List.{take_all}
 use Rattle.std.proofs.lemmas.Str.{is_utf8-from_IsUtf8, IsUtf8-from_is_utf8}
 use Rattle.hex.specs.declared.error.FromHexError.{FromHexError}
@@ -45,10 +45,6 @@ pair high low read e = rw (e, pair-is high low) (step (hex_digit_value high) (he
 
 -- ---- bytes that stand for themselves
 
-both : (a b : Bool) → (a && b) ≡ true → (a ≡ true) × (b ≡ true)
-both true b h = (refl, h)
-both false b h = absurd (cc)
-
 neither : (a b : Bool) → (a || b) ≡ false → (a ≡ false) × (b ≡ false)
 neither true b h = absurd (cc)
 neither false b h = (refl, h)
@@ -89,7 +85,7 @@ none_front (Err why) = refl
 pub plain_ahead : (front rest : List ℕ) → list_all stands_for_itself front ≡ true → unescaped (front ++ rest) ≡ put_in_front front (unescaped rest)
 plain_ahead [] rest are = none_front (unescaped rest)
 plain_ahead (byte ∷ front) rest are =
-    let parts = both (stands_for_itself byte) (list_all stands_for_itself front) are in
+    let parts = and_parts (stands_for_itself byte) (list_all stands_for_itself front) are in
     itself byte (front ++ rest) parts.0 ∙ ap (onto byte) (plain_ahead front rest parts.1) ∙ onto_front byte front (unescaped rest)
 
 -- a byte in front that neither stands for itself nor begins an escape

@@ -7,7 +7,7 @@ ghost use Rattle.mp_script.specs.Words.{parts_of};
 use crate::cut::two_parts;
 use crate::escape::escaped_bytes;
 use crate::fault::Fault;
-use crate::word::number_up_to;
+use crate::word::{MAX_NUMBER, number_up_to};
 use hex::FromHexError;
 use mount_model::ScriptCause;
 use mp_types::{Data, Items};
@@ -35,7 +35,7 @@ fn pattern(word: &[u8]) -> Result<Data, ScriptCause>
 {
     let parted = two_parts(word, b':').ok_or(ScriptCause::Data)?;
     let seed = number_up_to(parted.before, 4_294_967_295).ok_or(ScriptCause::Data)?;
-    let length = number_up_to(parted.after, 9_223_372_036_854_775_807).ok_or(ScriptCause::Data)?;
+    let length = number_up_to(parted.after, MAX_NUMBER).ok_or(ScriptCause::Data)?;
     Ok(Data::Pattern {
         seed: seed as u32,
         length,

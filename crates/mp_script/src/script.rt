@@ -1,6 +1,6 @@
-ghost use Rattle.std.specs.Prelude.{◌≡◌, ◌<◌, ◌≤◌, ◌∷◌, length, nat_lt, IfOk};
+ghost use Rattle.std.specs.Prelude.{◌≡◌, ◌-◌, ◌^◌, ◌<◌, ◌≤◌, ◌∷◌, length, min, nat_lt, IfOk};
 ghost use Rattle.mount_model.specs.Run.{AreRising};
-ghost use Rattle.mount_model.specs.ScriptText.{max_script_bytes, max_lines, max_read_bytes, max_given_bytes, lines_of, script_from, count_in, bytes_asked, given_in, bytes_given};
+ghost use Rattle.mount_model.specs.ScriptText.{max_script_bytes, max_lines, lines_of, script_from, count_in, given_in, bytes_together};
 ghost use Rattle.mp_script.specs.Reads.{ReadsScript, ReadsLines, AddsLine};
 
 use crate::cut::{Parted, cut};
@@ -12,6 +12,15 @@ use std::alloc::Global;
 
 /// A script has at most this many bytes.
 pub const MAX_BYTES: usize = 67_108_864;
+
+// A script has at most this many lines.
+const MAX_LINES: u32 = 65_536;
+
+// The reads of a script ask for at most this many bytes together.
+const MAX_READ: u64 = 268_435_456;
+
+// The puts and writes of a script give at most this many bytes together.
+const MAX_GIVEN: u64 = 268_435_456;
 
 // The first line, and the bytes behind its end.
 fn first_line(bytes: &[u8]) -> Parted<'_>
@@ -32,7 +41,7 @@ fn first_line(bytes: &[u8]) -> Parted<'_>
 fn has_too_many_lines(bytes: &[u8]) -> bool
     ensures { result ≡ nat_lt max_lines (length (lines_of bytes.now)) }
 {
-    let mut left = 65_536u32;
+    let mut left = MAX_LINES;
     let mut rest = bytes;
     while !rest.is_empty() {
         if left == 0 {
@@ -44,79 +53,57 @@ fn has_too_many_lines(bytes: &[u8]) -> bool
     false
 }
 
-// How many bytes a request asks to read.
-fn count_in(request: &Request) -> u64
-    ensures { result ≡ count_in request.now }
-{
-    match request {
-        Request::Read { count, .. } => *count,
-        Request::Put { .. }
-        | Request::Await
-        | Request::Stat { .. }
-        | Request::List { .. }
-        | Request::OpenRead { .. }
-        | Request::OpenWrite { .. }
-        | Request::OpenTruncate { .. }
-        | Request::Write { .. }
-        | Request::Sync { .. }
-        | Request::Close { .. }
-        | Request::Delete { .. }
-        | Request::MakeDir { .. }
-        | Request::RemoveDir { .. }
-        | Request::Unlink { .. } => 0,
-    }
+// How many bytes requests ask to read, and how many they give to be stored.
+#[derive(Clone, Copy)]
+struct Moved {
+    read: u64,
+    given: u64,
 }
 
-// How many bytes a request gives to be stored.
-fn given_in(request: &Request) -> u64
-    ensures { result ≡ given_in request.now }
-{
-    match request {
-        Request::Put { content, .. } | Request::Write { content, .. } => content.len(),
-        Request::Await
-        | Request::Stat { .. }
-        | Request::List { .. }
-        | Request::OpenRead { .. }
-        | Request::OpenWrite { .. }
-        | Request::OpenTruncate { .. }
-        | Request::Read { .. }
-        | Request::Sync { .. }
-        | Request::Close { .. }
-        | Request::Delete { .. }
-        | Request::MakeDir { .. }
-        | Request::RemoveDir { .. }
-        | Request::Unlink { .. } => 0,
-    }
-}
-
-// Whether the lines ask to read more than a script may ask for.
-fn reads_too_much(lines: &[Line]) -> bool
-    ensures { result ≡ nat_lt max_read_bytes (bytes_asked lines.now) }
-{
-    let mut left = 268_435_456u64;
-    for line in lines {
-        let count = count_in(&line.request);
-        if count > left {
-            return true;
+impl Moved {
+    // What one request moves.
+    fn by(request: &Request) -> Self
+        ensures read { result.read ≡ count_in request.now }
+        ensures given { result.given ≡ given_in request.now }
+    {
+        match request {
+            Request::Read { count, .. } => Moved {
+                read: *count,
+                given: 0,
+            },
+            Request::Put { content, .. } | Request::Write { content, .. } => Moved {
+                read: 0,
+                given: content.len(),
+            },
+            Request::Await
+            | Request::Stat { .. }
+            | Request::List { .. }
+            | Request::OpenRead { .. }
+            | Request::OpenWrite { .. }
+            | Request::OpenTruncate { .. }
+            | Request::Sync { .. }
+            | Request::Close { .. }
+            | Request::Delete { .. }
+            | Request::MakeDir { .. }
+            | Request::RemoveDir { .. }
+            | Request::Unlink { .. } => Moved { read: 0, given: 0 },
         }
-        left -= count;
     }
-    false
-}
 
-// Whether the lines give more to be stored than a script may give.
-fn gives_too_much(lines: &[Line]) -> bool
-    ensures { result ≡ nat_lt max_given_bytes (bytes_given lines.now) }
-{
-    let mut room = 268_435_456u64;
-    for line in lines {
-        let given = given_in(&line.request);
-        if given > room {
-            return true;
+    // What all lines move together. A sum beyond the greatest u64 is told as that.
+    fn together(lines: &[Line]) -> Self
+        ensures read { result.read ≡ min (bytes_together count_in lines.now) (2 ^ 64 - 1) }
+        ensures given { result.given ≡ min (bytes_together given_in lines.now) (2 ^ 64 - 1) }
+    {
+        let mut read = 0u64;
+        let mut given = 0u64;
+        for line in lines {
+            let moved = Moved::by(&line.request);
+            read = read.saturating_add(moved.read);
+            given = given.saturating_add(moved.given);
         }
-        room -= given;
+        Moved { read, given }
     }
-    false
 }
 
 // Adds the line of this number to those above it, unless it holds no request.
@@ -181,10 +168,11 @@ pub fn read_script(alloc: Global, bytes: &[u8]) -> Result<Script, ScriptError>
         return Err(ScriptError::TooLong(What::Lines));
     }
     let lines = read_lines(alloc, bytes)?;
-    if reads_too_much(lines.as_slice()) {
+    let moved = Moved::together(lines.as_slice());
+    if moved.read > MAX_READ {
         return Err(ScriptError::TooLong(What::Reads));
     }
-    if gives_too_much(lines.as_slice()) {
+    if moved.given > MAX_GIVEN {
         return Err(ScriptError::TooLong(What::Data));
     }
     Ok(Items::from_vec(lines))

@@ -76,11 +76,14 @@ pub fn handle(word: &[u8]) -> Result<u16, ScriptCause>
     }
 }
 
+/// An offset, a count, or the length of a pattern is at most this.
+pub const MAX_NUMBER: u64 = 9_223_372_036_854_775_807;
+
 /// The offset or the count that a word spells, less than 2^63.
 pub fn number(word: &[u8]) -> Result<u64, ScriptCause>
     ensures { result ≡ number_word word.now }
 {
-    match number_up_to(word, 9_223_372_036_854_775_807) {
+    match number_up_to(word, MAX_NUMBER) {
         Some(number) => Ok(number),
         None => Err(ScriptCause::Number),
     }

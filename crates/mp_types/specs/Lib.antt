@@ -3,5 +3,7 @@ pub mod ETag
 pub mod Content
 pub mod Count
 pub mod HandleName
+pub mod Key
 pub mod Options
 pub mod Path
+pub mod Plain

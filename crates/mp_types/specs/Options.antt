@@ -2,12 +2,12 @@
 use Rattle.std.specs.Prelude.{ℕ, ◌≤◌, ◌^◌, false}
 use Rattle.mp_types.specs.declared.options.Opts.{Opts}
 
-abbrev pub default_options : Opts
-default_options = record { part = 8388608; page = 1000; allow_delete = false; allow_overwrite = false }
-
 -- a page has at most so many items, as Amazon S3 says
 abbrev pub max_items : ℕ
 max_items = 1000
+
+abbrev pub default_options : Opts
+default_options = record { part = 8388608; page = max_items; allow_delete = false; allow_overwrite = false }
 
 -- each number is one that the option may have
 pub record AreWithin (options : Opts) : Type 0 where

@@ -4,6 +4,7 @@ use Rattle.std.specs.List.{list_all, slice_split, join_with_byte}
 use Rattle.std.specs.Cmp.Lexicographic.{pointwise}
 use Rattle.mp_types.specs.declared.path.PathFault.{PathFault}
 use Rattle.mp_types.specs.declared.path.PathFault.TheVariants.{Empty, TooLong, BadName}
+use Rattle.mp_types.specs.Key.{max_key_length}
 
 abbrev pub slash : ℕ
 slash = 47
@@ -26,7 +27,7 @@ checked place (name ∷ names) = if is_valid_name name then joined name (checked
 -- what stands behind the first `/`
 abbrev pub names_below : List ℕ → Result (List (List ℕ)) PathFault
 names_below [] = Ok []
-names_below bytes = if nat_lt 1024 (length bytes) then Err TooLong else checked 0 (slice_split (λ byte. byte == slash) bytes)
+names_below bytes = if nat_lt max_key_length (length bytes) then Err TooLong else checked 0 (slice_split (λ byte. byte == slash) bytes)
 
 -- the names of a path, from the root
 abbrev pub path_of : List ℕ → Result (List (List ℕ)) PathFault
@@ -56,4 +57,4 @@ joined names = join_with_byte slash names
 
 -- a path by what stands behind its first `/`
 abbrev pub IsPathText : List ℕ → List ℕ → Type 0
-IsPathText text below = (path_of text ≡ Ok (names_in below)) × (length below ≤ 1024) × (are_names (names_in below) ≡ true)
+IsPathText text below = (path_of text ≡ Ok (names_in below)) × (length below ≤ max_key_length) × (are_names (names_in below) ≡ true)

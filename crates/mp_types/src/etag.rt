@@ -4,6 +4,7 @@ ghost use Rattle.std.specs.Cmp.Lexicographic.{pointwise, nat_list_eq_equiv};
 ghost use Rattle.std.specs.List.{list_all};
 ghost use Rattle.mp_types.specs.ETag.{is_etag, is_etag_byte};
 
+use crate::is_plain;
 use std::marker::Model;
 use thiserror::Error;
 
@@ -35,7 +36,7 @@ impl Model for ETag {
 fn is_allowed(byte: u8) -> bool
     ensures { result ≡ is_etag_byte byte }
 {
-    byte >= 33 && byte <= 126 && byte != b'%' && byte != b':'
+    is_plain(byte) && byte != b':'
 }
 
 fn all_allowed(text: &[u8]) -> bool

@@ -1,11 +1,15 @@
 ghost use Rattle.std.specs.Prelude.{◌≡◌, ◌<◌, ◌≤◌, ◌↔◌, length, IfOk, IsErrOf, nat_eq};
 ghost use Rattle.std.specs.Cmp.{partial_equiv_from_equiv};
 ghost use Rattle.std.specs.Cmp.Lexicographic.{pointwise, nat_list_eq_equiv};
+ghost use Rattle.mp_types.specs.Key.{IsKeyText, max_key_length};
 
 use crate::Text;
 use std::alloc::{AllocError, Global};
 use std::marker::Model;
 use thiserror::Error;
+
+/// A key has at most so many bytes, as Amazon S3 says, and so does what stands behind the first `/` of a path.
+pub const MAX_KEY_LENGTH: usize = 1_024;
 
 /// Why a text is no key.
 #[derive(Debug, Drop, PartialEq, Eq, Error)]
@@ -25,39 +29,49 @@ pub struct Key {
 }
 
 impl Model for Key {
-    ghost use Rattle.std.specs.Prelude.{List, ℕ, ◌<◌, ◌≤◌, length};
+    ghost use Rattle.std.specs.Prelude.{List, ℕ};
+    ghost use Rattle.mp_types.specs.Key.{IsKeyText};
 
     ghost Value = { List ℕ };
 
     ghost view = { λ a. a.text };
 
-    ghost invariant = { λ a. (0 < length a.text) × (length a.text ≤ 1024) };
+    ghost invariant = { λ a. IsKeyText a.text };
 }
 
 impl Key {
     /// The key of a text. Each fault but want of memory comes exactly for its texts.
     pub fn parse(alloc: Global, text: &str) -> Result<Self, KeyFault>
-        ensures ok { IfOk result (λ key. (key ≡ text.now) × (0 < length text.now) × (length text.now ≤ 1024)) }
+        ensures ok { IfOk result (λ key. (key ≡ text.now) × IsKeyText text.now) }
         ensures empty { (IsErrOf result KeyFault.Empty) ↔ (length text.now ≡ 0) }
-        ensures too_long { (IsErrOf result KeyFault.TooLong) ↔ (1024 < length text.now) }
+        ensures too_long { (IsErrOf result KeyFault.TooLong) ↔ (max_key_length < length text.now) }
     {
         if text.is_empty() {
             return Err(KeyFault::Empty);
         }
-        if text.len() > 1024 {
+        if text.len() > MAX_KEY_LENGTH {
             return Err(KeyFault::TooLong);
         }
-        match Text::copy(alloc, text) {
-            Ok(text) => Ok(Key { text }),
+        match Key::of(alloc, text) {
+            Ok(key) => Ok(key),
             Err(_) => Err(KeyFault::Memory),
         }
+    }
+
+    /// The key of a text that is as long as a key may be.
+    pub fn of(alloc: Global, text: &str) -> Result<Self, AllocError>
+        requires { IsKeyText text.now }
+        ensures { IfOk result (λ key. key ≡ text.now) }
+    {
+        Ok(Key {
+            text: Text::copy(alloc, text)?,
+        })
     }
 
     /// The key's text.
     pub fn as_text(&self) -> &Text
         ensures text { result.now ≡ self.now }
-        ensures not_empty { 0 < length self.now }
-        ensures short { length self.now ≤ 1024 }
+        ensures key { IsKeyText self.now }
     {
         &self.text
     }
@@ -65,8 +79,7 @@ impl Key {
     /// The key's text. Takes no memory.
     pub fn into_text(self) -> Text
         ensures text { result ≡ self }
-        ensures not_empty { 0 < length self }
-        ensures short { length self ≤ 1024 }
+        ensures key { IsKeyText self }
     {
         self.text
     }
@@ -74,8 +87,7 @@ impl Key {
     /// The key's text.
     pub fn as_str(&self) -> &str
         ensures text { result.now ≡ self.now }
-        ensures not_empty { 0 < length self.now }
-        ensures short { length self.now ≤ 1024 }
+        ensures key { IsKeyText self.now }
     {
         self.text.as_str()
     }

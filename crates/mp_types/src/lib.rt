@@ -10,6 +10,7 @@ mod key;
 mod octets;
 mod options;
 mod path;
+mod plain;
 mod shared;
 mod text;
 
@@ -20,6 +21,7 @@ pub use key::{Key, KeyFault};
 pub use octets::Data;
 pub use options::{MAX_HANDLES, Opts};
 pub use path::{FilePath, PathFault, below_root, is_name};
+pub use plain::is_plain;
 pub use shared::Shared;
 pub use text::{Text, behind};
 

@@ -1,8 +1,10 @@
 ghost use Rattle.std.specs.Prelude.{◌≡◌, ◌≤◌, ◌==◌, ◌↔◌, List, ℕ, Ok, Err, true, length, not, ◌&&◌, IfOk, IsErrOf, MatchResult, option_map};
 ghost use Rattle.std.specs.List.{list_all, position_from, slice_get, slice_split};
+ghost use Rattle.mp_types.specs.Key.{max_key_length};
 ghost use Rattle.mp_types.specs.Path.{IsPathText, are_names, is_bad_name, is_slash, is_valid_name, joined, names_in, path_of, slash};
 
 use crate::Text;
+use crate::key::MAX_KEY_LENGTH;
 use std::alloc::{AllocError, Global};
 use std::marker::Model;
 use thiserror::Error;
@@ -29,13 +31,14 @@ pub struct FilePath {
 
 impl Model for FilePath {
     ghost use Rattle.std.specs.Prelude.{List, ℕ, ◌≡◌, ◌≤◌, true, length};
+    ghost use Rattle.mp_types.specs.Key.{max_key_length};
     ghost use Rattle.mp_types.specs.Path.{are_names, names_in};
 
     ghost Value = { List (List ℕ) };
 
     ghost view = { λ a. names_in a.text };
 
-    ghost invariant = { λ a. (length a.text ≤ 1024) × (are_names (names_in a.text) ≡ true) };
+    ghost invariant = { λ a. (length a.text ≤ max_key_length) × (are_names (names_in a.text) ≡ true) };
 }
 
 fn has_no_bad_byte(name: &[u8]) -> bool
@@ -68,7 +71,7 @@ pub fn below_root(text: &str) -> Result<&str, PathFault>
     let Some(below) = text.strip_prefix('/') else {
         return Err(PathFault::Empty);
     };
-    if below.len() > 1024 {
+    if below.len() > MAX_KEY_LENGTH {
         return Err(PathFault::TooLong);
     }
     if below.is_empty() {
@@ -139,7 +142,7 @@ impl FilePath {
     /// The names with a `/` between each two, as keys have them: what stands behind the path's first `/`.
     pub fn as_key(&self) -> &str
         ensures text { result.now ≡ joined self.now }
-        ensures short { length result.now ≤ 1024 }
+        ensures short { length result.now ≤ max_key_length }
         ensures root { (length result.now == 0) ≡ (length self.now == 0) }
         ensures valid { are_names self.now ≡ true }
     {

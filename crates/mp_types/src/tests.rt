@@ -22,6 +22,18 @@ fn path_of_length(alloc: Global, len: usize) -> Result<Text, Fail> {
 }
 
 #[test]
+fn names_are_told_from_other_texts(rt: HostRuntime) -> Result<(), Fail> {
+    assert!(rt; is_name("a"));
+    assert!(rt; is_name("..."));
+    assert!(rt; !is_name(""));
+    assert!(rt; !is_name("."));
+    assert!(rt; !is_name(".."));
+    assert!(rt; !is_name("a/b"));
+    assert!(rt; !is_name("a\0"));
+    Ok(())
+}
+
+#[test]
 fn a_path_has_its_names(rt: HostRuntime) -> Result<(), Fail> {
     let path = parse(rt.alloc(), "/a/bc")?;
     assert!(rt; !path.is_root());

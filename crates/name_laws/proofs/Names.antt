@@ -1,11 +1,12 @@
 -- What a change of the mount's own names does to each key.
-use Rattle.std.proofs.Common.{◌≡◌, ◌≢◌, ℕ, cond, Bool, true, false, not, ◌&&◌, ◌||◌, List, Some, None, ◌⊎◌, inl, inr, refl, sym, ap, ◌∙◌}
+use Rattle.std.proofs.Common.{◌≡◌, ◌≢◌, ℕ, cond, Bool, true, false, not, ◌||◌, List, Some, None, ◌⊎◌, inl, inr, refl, sym, ap, ◌∙◌}
 use Rattle.std.proofs.lemmas.Map.Text.{is_eq-slice_cmp}
 use Rattle.std.specs.Cmp.Lexicographic.{slice_cmp, nat_list_cmp_total, bytes_decides}
 use Rattle.std.specs.FinMap as map
 use Rattle.std.specs.FinSet as set
 use Rattle.std.specs.FinSet.{nat_cmp-IsAntisymmetric, slice_cmp-IsAntisymmetric}
 use Rattle.std.specs.Ordering.{nat_cmp, eq_by_cmp}
+use Rattle.std.proofs.lemmas.Bool.{and_parts}
 use Rattle.mp_rules.specs.Keys.{is_below}
 use Rattle.mp_rules.specs.Local.{Keys, LocalNames, with_file, without_file}
 use Rattle.upload_rules.specs.declared.upload.UpState.{UpState}
@@ -64,17 +65,13 @@ no-file-gone names key none q = elim (keys q key) [
 pub dir-made : (dirs : Keys) (key q : List ℕ) → q ≢ key → set.contains (set.insert dirs key) q ≡ set.contains dirs q
 dir-made dirs key q apart = set.contains-insert nat_list_cmp_total dirs key q ∙ ap (λ (b : Bool). b || set.contains dirs q) (key-other q key apart)
 
-both-true : (b c : Bool) → (b && c) ≡ true → (b ≡ true) × (c ≡ true)
-both-true true c is = (refl, is)
-both-true false c is = absurd (cc)
-
 pub dir-removed : (dirs : Keys) (key q : List ℕ) → set.contains (set.remove dirs key) q ≡ true → set.contains dirs q ≡ true
-dir-removed dirs key q is = (both-true (not (is_key q key)) (set.contains dirs q) (sym (set.contains-remove nat_list_cmp_total dirs key q) ∙ is)).1
+dir-removed dirs key q is = (and_parts (not (is_key q key)) (set.contains dirs q) (sym (set.contains-remove nat_list_cmp_total dirs key q) ∙ is)).1
 
 dir-retained : (dirs : Keys) (keeps : List ℕ → Bool) (q : List ℕ) → set.contains (set.retain dirs keeps) q ≡ true → set.contains dirs q ≡ true
 dir-retained dirs keeps q is =
     let alike = set.contains-retain dirs keeps q (λ x tie. ap keeps (sym (slice_cmp-IsAntisymmetric nat_cmp-IsAntisymmetric q x tie))) in
-    (both-true (set.contains dirs q) (keeps q) (sym alike ∙ is)).0
+    (and_parts (set.contains dirs q) (keeps q) (sym alike ∙ is)).0
 
 -- What stays once a file's writer is no longer under way: each other file, and no directory is new.
 pub record IsRemoved (names : LocalNames) (key : List ℕ) (now : LocalNames) : Type 0 where

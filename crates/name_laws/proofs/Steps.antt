@@ -3,7 +3,7 @@ use Rattle.std.proofs.Common.{◌≡◌, ℕ, List, [], ◌∷◌, ◌++◌, fol
 use Rattle.std.specs.FinMap as table
 use Rattle.std.specs.Ordering.{nat_cmp}
 use Rattle.std.specs.Cmp.Lexicographic.{slice_cmp}
-use Rattle.mp_types.specs.HandleName.{HandleName, name_cmp}
+use Rattle.mp_types.specs.HandleName.{HandleName}
 use Rattle.mp_types.specs.declared.options.Opts.{Opts}
 use Rattle.mp_types.specs.Options.{AreWithin}
 use Rattle.bucket_model.specs.Along.{Along}
@@ -28,7 +28,7 @@ use Rattle.run_laws.proofs.Turn.{Ending, AsksOne, RepliesOne, WritesOn, EndsIt, 
 use Rattle.run_laws.proofs.Opened.{IsOpened, IsHeard}
 use Rattle.run_laws.proofs.Steps.{next_now, heard_now, StepIs, LineStep, WriterStep, TakeStep, step-is}
 use Rattle.run_laws.proofs.Effects.{asks-shared, waits-shared}
-use Rattle.run_laws.proofs.Alive.{shared_behind, lines_behind, own-reply, alive-step, opening-alive}
+use Rattle.run_laws.proofs.Alive.{shared_behind, lines_behind, own-reply, alive-step, opening-alive, no-handle}
 use Rattle.name_laws.proofs.Bytes.{GoesOn, goes-same, goes-hears, goes-ends}
 use Rattle.name_laws.proofs.Files.{files-look, at-itself, files-grown}
 use Rattle.name_laws.proofs.Turns.{SharedFiles, turn-files, reply-files}
@@ -101,9 +101,6 @@ files-steps state [] alive has run = has
 files-steps state (step ∷ steps) alive has run = files-steps (after state step) steps (alive-step state step alive run.0) (files-step state step alive has run.0) run.1
 
 -- before the first step
-
-no-handle : (q : HandleName) → table.get (table.empty {X = Handle} {R = name_cmp}) q ≡ None
-no-handle q = table.get-empty name_cmp q
 
 no-file : (key : List ℕ) → table.get (table.empty {X = ℕ} {R = slice_cmp nat_cmp}) key ≡ None
 no-file key = table.get-empty (slice_cmp nat_cmp) key

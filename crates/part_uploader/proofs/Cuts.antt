@@ -1,18 +1,16 @@
 -- Bytes in buffers of a part each, and what is left of the last one.
 use Rattle.std.proofs.Common.{◌≡◌, ℕ, ◌+◌, ◌-◌, ◌≤◌, List, [], ◌∷◌, ◌++◌, length, drop, sym, ap, ◌∙◌, append_assoc, arith}
 use Rattle.std.specs.List.{All, slice_range}
-use Rattle.std.proofs.lemmas.List.{length-append, take-append-drop, drop-drop, append-nil}
+use Rattle.std.proofs.lemmas.List.{length-append, take-append-drop, drop-drop}
 use Rattle.std.proofs.lemmas.List.Edits.{length-between}
 use Rattle.std.proofs.lemmas.List.Concat.{flat_map-append}
 use Rattle.std.proofs.lemmas.List.Elements.{All-push, All-append, All-rest}
 use Rattle.upload_rules.specs.Run.{joined}
+use Rattle.upload_rules.proofs.Parts.{joined-push}
 use Rattle.part_uploader.specs.Buffered.{AreCut, bytes_in}
 
 pub joined-append : (xs ys : List (List ℕ)) → joined (xs ++ ys) ≡ joined xs ++ joined ys
 joined-append xs ys = flat_map-append (λ bytes. bytes) xs ys
-
-pub joined-push : (xs : List (List ℕ)) (bytes : List ℕ) → joined (xs ++ bytes ∷ []) ≡ joined xs ++ bytes
-joined-push xs bytes = joined-append xs (bytes ∷ []) ∙ ap (λ ys. joined xs ++ ys) (append-nil bytes)
 
 -- what stands from a place on is the next bytes and what stands behind them
 pub next_bytes : (bytes : List ℕ) (place count : ℕ) → drop place bytes ≡ slice_range bytes place (place + count) ++ drop (place + count) bytes

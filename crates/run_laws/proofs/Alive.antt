@@ -32,6 +32,7 @@ use Rattle.mount_model.specs.Writers.{answer_to}
 use Rattle.mount_model.specs.Conversation.{Next, Asks, Writes, Ends, Waits}
 use Rattle.mount_model.specs.State.{Shared, ClientState, Job, Out, line_at, change_line, change_job, lines_at, jobs_at, with_replies, view_of, handle_name, Turn, NoTurn, turn_at, calls_of, askings_of, jobs_made, jobs_of_writer, jobs_of_line, jobs_after, with_names, writes_first, writer_left, behind_step, is_answered, by_reply, reply_in, shared_after, time_after, positions_after, opening, after, state_after}
 use Rattle.mount_model.specs.Run.{AreRising, TakesTurnOfWriter, due_awaits, IsLegalStep, IsRunSoFar, asked_of}
+use Rattle.mount_model.proofs.Numbered.{numbered-change}
 use Rattle.run_laws.specs.Counts.{is_no_abort, made_job, out_job, ready_job, calls_ready, if_of_writer, part_in, parts_made}
 use Rattle.run_laws.specs.Alive.{jobs_at_once, jobs_wanted, AreOrderly, IsAlive}
 use Rattle.run_laws.specs.Served.{IsOfLine}
@@ -40,7 +41,7 @@ use Rattle.run_laws.proofs.Keyed.{total-append}
 use Rattle.run_laws.proofs.Lines.{Rises-lines, lines-opening, lines-replies, with_replies-append}
 use Rattle.run_laws.proofs.Settled.{settled, settled-is, settled-due, settled-wanted}
 use Rattle.run_laws.proofs.Orderly.{orderly-settled}
-use Rattle.run_laws.proofs.Jobs.{IsReady, Rises-jobs, numbered-change, live-taken, out-taken, ready-taken, made-change, parts-change}
+use Rattle.run_laws.proofs.Jobs.{IsReady, Rises-jobs, live-taken, out-taken, ready-taken, made-change, parts-change}
 use Rattle.run_laws.proofs.Handles.{Look, with_at, at-same, at-other, names}
 use Rattle.run_laws.proofs.Dropped.{drop_one}
 use Rattle.run_laws.proofs.WriterTurn.{HasTurned, writer-turns}
@@ -81,7 +82,7 @@ at-work jobs now w fewer is = record { busy = is.busy; idle = λ failed. let non
 
 -- what the jobs and the handles are behind a line's turn
 
-no-asks : (step : Step) (line : Line) (next : Next) → step.asks ≡ [] → jobs_of_line step line next ≡ []
+pub no-asks : (step : Step) (line : Line) (next : Next) → step.asks ≡ [] → jobs_of_line step line next ≡ []
 no-asks step line (Asks called) none = ap (λ (asks : List Ask). jobs_made line.number asks (called ∷ [])) none
 no-asks step line (Writes count w) none = ap (λ (asks : List Ask). jobs_made w.line asks (calls_of (askings_of step w))) none
 no-asks step line (Ends w) none = ap (λ (asks : List Ask). jobs_made w.line asks (calls_of (askings_of step w))) none
@@ -470,7 +471,7 @@ opening-orderly : (busy : List ℕ) (options : Opts) (script : List Line) → Ar
 opening-orderly busy options [] = tt
 opening-orderly busy options (line ∷ script) = opening-orderly (line.actor ∷ busy) options script
 
-no-handle : (q : HandleName) → table.get (table.empty {X = Handle} {R = name_cmp}) q ≡ None
+pub no-handle : (q : HandleName) → table.get (table.empty {X = Handle} {R = name_cmp}) q ≡ None
 no-handle q = table.get-empty name_cmp q
 
 pub opening-alive : (options : Opts) (script : List Line) → AreWithin options → AreRising 0 script → IsAlive (opening options script)

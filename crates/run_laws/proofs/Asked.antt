@@ -14,16 +14,17 @@ use Rattle.mount_model.specs.declared.event.Owner.TheVariants as owner
 use Rattle.mount_model.specs.declared.event.AskedCall.{AskedCall}
 use Rattle.mount_model.specs.declared.event.AskedCall.TheVariants as asked
 use Rattle.mount_model.specs.Writers.{Asking, asking_for, with_asking, first_asks, ask_times}
-use Rattle.mount_model.specs.State.{Job, Ready, is_abort as told_abort, calls_in, jobs_made, calls_of}
+use Rattle.mount_model.specs.State.{Job, Ready, is_abort as told_abort, calls_in, jobs_made, calls_of, AreNumbered}
 use Rattle.mount_model.specs.Run.{numbered}
+use Rattle.mount_model.proofs.Numbered.{numbered-push}
 use Rattle.run_laws.specs.Counts.{total, any_call, is_create, is_part, is_complete, is_abort, made_job, out_job, ready_job, calls_made, calls_out, calls_ready, if_of_writer, part_in, parts_made}
-use Rattle.run_laws.specs.Alive.{AreNumbered, live_job, live_jobs}
+use Rattle.run_laws.specs.Alive.{live_job, live_jobs}
 use Rattle.run_laws.specs.Calls.{job_for, jobs_of}
 use Rattle.run_laws.specs.Uploads.{IsUpload, IsTallied, calls_left_of}
 use Rattle.run_laws.specs.Work.{job_work}
 use Rattle.run_laws.specs.Writers.{tally, CountsFrom, AsksOnce}
 use Rattle.run_laws.proofs.Keyed.{total-append}
-use Rattle.run_laws.proofs.Jobs.{if_writer-own, if_writer-other, numbered-push, parts-length}
+use Rattle.run_laws.proofs.Jobs.{if_writer-own, if_writer-other, parts-length}
 use Rattle.run_laws.proofs.Uploads.{Adds, IsOnce, kinds, ask-tallied, tallied-once}
 use Rattle.run_laws.proofs.Places.{Stays, stays-same, stays-then, stays-ask, pending-ask, upload-ask, ask-made, ask-fewer}
 

@@ -29,7 +29,7 @@ use Rattle.bucket_model.specs.declared.answer.Brief.{Brief}
 use Rattle.bucket_model.specs.declared.answer.Brief.TheVariants as answer
 use Rattle.bucket_model.specs.declared.answer.Brief.TheVariants.{Missing, Bytes, Changed, Gone, Made, Fault}
 use Rattle.upload_rules.specs.declared.upload.UpState.TheVariants as state
-use Rattle.upload_rules.specs.Upload.{Upload, written, with_bytes, with_closing}
+use Rattle.upload_rules.specs.Upload.{Upload, with_bytes, with_closing}
 use Rattle.mount_model.specs.declared.request.Request.{Request}
 use Rattle.mount_model.specs.declared.request.Request.TheVariants as request
 use Rattle.mount_model.specs.declared.request.Request.TheVariants.{Put, Await, Stat, OpenRead, OpenWrite, OpenTruncate, Read, Write, Sync, Close, Delete, MakeDir, RemoveDir, Unlink}

@@ -3,9 +3,9 @@ use Rattle.std.proofs.Common.{◌≡◌, ◌≢◌, ℕ, ◌+◌, ◌<◌, ◌�
 use Rattle.bucket_model.specs.declared.call.Call.{Call}
 use Rattle.mount_model.specs.declared.event.Owner.{Owner}
 use Rattle.mount_model.specs.declared.event.Owner.TheVariants as owner
-use Rattle.mount_model.specs.State.{Job, JobPhase, Ready, Out, Gone, job_at, change_job, in_phase, is_ready_for, ready_for}
+use Rattle.mount_model.specs.State.{Job, JobPhase, Ready, Out, Gone, job_at, change_job, in_phase, is_ready_for, ready_for, AreNumbered}
 use Rattle.run_laws.specs.Counts.{total, any_call, if_writer, made_job, out_job, ready_job, calls_made, calls_out, calls_ready, if_of_writer, part_in, parts_made}
-use Rattle.run_laws.specs.Alive.{AreNumbered, live_job, live_jobs}
+use Rattle.run_laws.specs.Alive.{live_job, live_jobs}
 use Rattle.run_laws.specs.Calls.{job_for, jobs_of}
 use Rattle.run_laws.specs.Work.{job_work}
 use Rattle.run_laws.proofs.Keyed.{Rises, Rises-below, change_at-none}

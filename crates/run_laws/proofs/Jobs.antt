@@ -5,10 +5,10 @@ use Rattle.bucket_model.specs.declared.call.Call.{Call}
 use Rattle.bucket_model.specs.declared.call.Call.TheVariants as call
 use Rattle.mount_model.specs.declared.event.Owner.{Owner}
 use Rattle.mount_model.specs.declared.event.Owner.TheVariants as owner
-use Rattle.mount_model.specs.State.{Job, JobPhase, Ready, Out, Gone, job_at, change_job, in_phase}
+use Rattle.mount_model.specs.State.{Job, JobPhase, Ready, Out, Gone, job_at, change_job, in_phase, AreNumbered}
 use Rattle.mount_model.specs.Run.{is_among, ready}
 use Rattle.run_laws.specs.Counts.{if_live, if_ready, if_line, any_call, is_create, is_part, is_complete, is_abort, if_writer, made_job, out_job, ready_job, calls_made, calls_out, calls_ready, if_of_writer, part_in, parts_made}
-use Rattle.run_laws.specs.Alive.{AreNumbered, if_of_line, live_job, live_jobs}
+use Rattle.run_laws.specs.Alive.{if_of_line, live_job, live_jobs}
 use Rattle.run_laws.proofs.Keyed.{Rises, Rises-below, item_at-later, total-change, total-at, total-most}
 use Rattle.run_laws.proofs.Uploads.{kinds}
 
@@ -22,18 +22,6 @@ Rises-jobs above (job ∷ jobs) r = let is = r.0 in (omega arith, Rises-below jo
 pub length-change_job : (n : ℕ) (phase : JobPhase) (jobs : List Job) → length (change_job n phase jobs) ≡ length jobs
 length-change_job n phase [] = refl
 length-change_job n phase (job ∷ jobs) = let more = length-change_job n phase jobs in omega arith
-
-pub numbered-change : (number n : ℕ) (phase : JobPhase) (jobs : List Job) → AreNumbered number jobs → AreNumbered number (change_job n phase jobs)
-numbered-change number n phase [] r = tt
-numbered-change number n phase (job ∷ jobs) r = (go (job.number == n), numbered-change (number + 1) n phase jobs r.1)
-  where
-    go : (b : Bool) → (if b then in_phase phase job else job).number ≡ number
-    go true = r.0
-    go false = r.0
-
-pub numbered-push : (number : ℕ) (jobs : List Job) (job : Job) → job.number ≡ number + length jobs → AreNumbered number jobs → AreNumbered number (jobs ++ job ∷ [])
-numbered-push number [] job is r = (omega arith, tt)
-numbered-push number (first ∷ jobs) job is r = (r.0, numbered-push (number + 1) jobs job (omega arith) r.1)
 
 -- a job that may be taken stands, and is ready
 pub record IsReady (n : ℕ) (jobs : List Job) : Type 0 where

@@ -24,6 +24,7 @@ use Rattle.mount_model.specs.Writers.{hears_answer}
 use Rattle.mount_model.specs.Conversation.{next_of, with_upload}
 use Rattle.mount_model.specs.State.{Shared, ClientState, Job, JobPhase, Out, Gone, line_at, job_at, change_line, change_job, in_phase, heard, hears, lines_at, jobs_at, view_of, handle_name, TurnOf, TurnOfWriter, turn_of_line, turn_of_handle, turn_of_writer, turn_of_job, turn_at}
 use Rattle.mount_model.specs.Run.{MayDone, is_among, startable}
+use Rattle.mount_model.proofs.Numbered.{numbered-change}
 use Rattle.run_laws.specs.Counts.{total, if_line, any_call, is_create, is_part, is_complete, is_abort, if_writer, made_job, calls_made, calls_out, calls_ready}
 use Rattle.run_laws.specs.Alive.{if_of_line, live_job, jobs_at_once, jobs_wanted, IsAlive}
 use Rattle.run_laws.specs.Calls.{jobs_of, may_ask}
@@ -37,7 +38,7 @@ use Rattle.run_laws.specs.Writers.{tally, awaits_writer, waiting_line, IsWaiting
 use Rattle.run_laws.proofs.Keyed.{total-at, item_at-key}
 use Rattle.run_laws.proofs.Lines.{number_of, Rises-lines, lines-change, line_at-same, line_at-other}
 use Rattle.run_laws.proofs.Orderly.{Frees-same, orderly-begun, orderly-heard, startable-found, orderly-apart}
-use Rattle.run_laws.proofs.Jobs.{job_number, Rises-jobs, length-change_job, numbered-change, own_job, live-gone, out-gone, ready-gone, made-change, parts-change, if_writer-own, if_writer-other, out-kinds, out-one, kinds-most, is_other, if_live-live}
+use Rattle.run_laws.proofs.Jobs.{job_number, Rises-jobs, length-change_job, own_job, live-gone, out-gone, ready-gone, made-change, parts-change, if_writer-own, if_writer-other, out-kinds, out-one, kinds-most, is_other, if_live-live}
 use Rattle.run_laws.proofs.Uploads.{BacksCall, kinds, hears-tallied, back-no-abort}
 use Rattle.run_laws.proofs.Places.{upload-hears, pending-hears, shrinks-hears, shrinks-left}
 use Rattle.run_laws.proofs.Asked.{OnlyFor, IsInTurn}

@@ -16,16 +16,16 @@ use Rattle.mount_model.specs.declared.standing.Standing.{Standing}
 use Rattle.mount_model.specs.declared.handle.Version.{Version}
 use Rattle.mount_model.specs.Step.{Step}
 use Rattle.mount_model.specs.Handles.{Writer}
-use Rattle.mount_model.specs.State.{ClientState, Job, Ready, line_at, change_line}
+use Rattle.mount_model.specs.State.{ClientState, Job, Ready, line_at, change_line, AreNumbered}
 use Rattle.mount_model.specs.Conversation.{Next, Asks, Replies, Makes, Removes, Opens, Creates, Lists, Gives, Writes, Ends, Waits}
 use Rattle.mount_model.specs.Run.{AreRising, asked_of, TakesTurnOfLine, TakesTurnOfWriter}
+use Rattle.mount_model.proofs.Numbered.{numbered-push}
 use Rattle.run_laws.specs.Counts.{if_line}
-use Rattle.run_laws.specs.Alive.{AreNumbered, if_of_line, live_job, live_jobs, jobs_at_once, jobs_wanted, AreOrderly}
+use Rattle.run_laws.specs.Alive.{if_of_line, live_job, live_jobs, jobs_at_once, jobs_wanted, AreOrderly}
 use Rattle.run_laws.specs.Served.{IsOfLine}
 use Rattle.run_laws.proofs.Keyed.{total-append}
 use Rattle.run_laws.proofs.Lines.{line_in, Rises-lines, lines-change, line_at-same, line_at-other}
 use Rattle.run_laws.proofs.Orderly.{orderly-replied}
-use Rattle.run_laws.proofs.Jobs.{numbered-push}
 
 -- how a line's turn ends
 

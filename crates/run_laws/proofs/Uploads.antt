@@ -1,5 +1,5 @@
 -- What an upload asks for and hears keeps its calls in their count.
-use Rattle.std.proofs.Common.{◌≡◌, ◌≢◌, ℕ, zero, suc, ◌+◌, ◌-◌, ◌<◌, ◌≤◌, List, [], length, Bool, true, false, not, ◌&&◌, ◌||◌, ◌==◌, nat_le, if◌then◌else◌, Option, Some, None, ◌⊎◌, inl, inr, refl, sym, ap, ◌∙◌, subst, arith, eqb-true}
+use Rattle.std.proofs.Common.{◌≡◌, ◌≢◌, ℕ, zero, suc, ◌+◌, ◌-◌, ◌<◌, ◌≤◌, List, [], length, Bool, true, false, ◌&&◌, ◌==◌, nat_le, if◌then◌else◌, Option, Some, None, ◌⊎◌, inl, inr, refl, sym, ap, ◌∙◌, subst, arith, eqb-true}
 use Rattle.std.proofs.lemmas.Bool.{eqb-false, and_parts}
 use Rattle.mp_types.specs.declared.errno.Errno.{Errno}
 use Rattle.mp_types.specs.declared.errno.Errno.TheVariants.{Enomem}
@@ -14,7 +14,7 @@ use Rattle.upload_rules.specs.declared.upload.Created.TheVariants.{NotAsked, Ask
 use Rattle.upload_rules.specs.declared.upload.UpAsk.{UpAsk}
 use Rattle.upload_rules.specs.declared.upload.UpAsk.TheVariants.{Create, Part, Complete, Abort}
 use Rattle.upload_rules.specs.Upload.{Upload, new_upload, due, has_part, is_full, ask_part, with_ask, with_bytes, with_closing, finished, fails_with, with_failure, with_id, with_stored, completed, given_up}
-use Rattle.upload_rules.proofs.Due.{upload, part-left, due-is, chosen, chosen-of-two}
+use Rattle.upload_rules.proofs.Due.{upload, part-left, no-part-left, due-is, chosen, chosen-of-two}
 use Rattle.mount_model.specs.Conversation.{errno_of, ended}
 use Rattle.mount_model.specs.Writers.{asking_for, hears_answer, has_failed, lacking, settled, back_times}
 use Rattle.run_laws.specs.Counts.{is_create, is_part, is_complete, is_abort}
@@ -46,13 +46,6 @@ abbrev pub BacksCall : Call → Tally → Tally → Type 0
 BacksCall called t now = Backs (is_create called) (is_part called) (is_complete called) (is_abort called) t now
 
 -- what the parts that are left say
-
-no-part-left : (bytes asked : ℕ) → (not (bytes == 0) || asked == 0) ≡ false → (bytes ≡ 0) × (1 ≤ asked)
-no-part-left bytes asked has = go (bytes == 0) (asked == 0) refl refl has
-  where
-    go : (b c : Bool) → (bytes == 0) ≡ b → (asked == 0) ≡ c → (not b || c) ≡ false → (bytes ≡ 0) × (1 ≤ asked)
-    go true c none first has = (eqb-true bytes 0 none, (let some = eqb-false asked 0 (let same : (asked == 0) ≡ false = cc in same) in omega arith))
-    go false c none first has = absurd (cc)
 
 -- where the object was asked for, no part is left and a call isn't back
 completing-none : (u : Upload) (t : Tally) → IsCompleting u t → (has_part u ≡ true → ⊥)

@@ -18,15 +18,15 @@ use Rattle.mount_model.specs.declared.event.Answered.{Answered}
 use Rattle.mount_model.specs.Step.{Step}
 use Rattle.mount_model.specs.Handles.{Writer}
 use Rattle.mount_model.specs.Writers.{Asking, asking_for, first_asks, ask_times, has_failed, settled, back_times, sync_answer, close_answer, answer_to}
-use Rattle.mount_model.specs.State.{ClientState, Job, Gone, job_at, jobs_at, in_phase, is_ready_for, ready_for, calls_in, gives_up, behind_asks, behind_drops, behind_step, askings_of, calls_of, jobs_made, jobs_of_writer, is_answered}
+use Rattle.mount_model.specs.State.{ClientState, Job, Gone, job_at, jobs_at, in_phase, is_ready_for, ready_for, calls_in, gives_up, behind_asks, behind_drops, behind_step, askings_of, calls_of, jobs_made, jobs_of_writer, is_answered, AreNumbered}
 use Rattle.mount_model.specs.Run.{numbered, jobs_called, TakesTurnOfWriter}
+use Rattle.mount_model.proofs.Numbered.{numbered-push}
 use Rattle.run_laws.specs.Counts.{any_call, is_create, is_part, is_complete, is_abort, is_no_abort, calls_out, calls_ready, parts_made}
-use Rattle.run_laws.specs.Alive.{AreNumbered}
 use Rattle.run_laws.specs.Order.{asked_job}
 use Rattle.run_laws.specs.Uploads.{Tally, IsTalliedIn, IsTallied, IsSpent}
 use Rattle.run_laws.specs.Writers.{tally, waiting_line, AsksOnce}
 use Rattle.run_laws.proofs.Keyed.{Rises, all-append}
-use Rattle.run_laws.proofs.Jobs.{Rises-jobs, numbered-push, out-kinds, ready-kinds, ready-out, found-of-two}
+use Rattle.run_laws.proofs.Jobs.{Rises-jobs, out-kinds, ready-kinds, ready-out, found-of-two}
 use Rattle.run_laws.proofs.Dropped.{drop_one, dropped, dropped-is, dropped-made, dropped-parts, dropped-out, dropped-out-other, dropped-ready, dropped-ready-other, dropped-live, dropped-jobs_of, dropped-work, dropped-numbered, dropped-length, dropped-found, drops-count, drops-rise}
 use Rattle.run_laws.proofs.Uploads.{Backs, settled-tallied, settled-none, finished-busy, drops-tallied}
 use Rattle.run_laws.proofs.Places.{stays-settled, stays-back, shrinks-settled, shrinks-back, shrinks-left, pending-settled, pending-back, upload-settled, upload-back}

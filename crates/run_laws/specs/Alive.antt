@@ -1,5 +1,5 @@
 -- What holds of the mount's state after each step of a run.
-use Rattle.std.specs.Prelude.{◌≡◌, ℕ, ◌+◌, ◌≤◌, List, [], ◌∷◌, map, false, Option, Some, None}
+use Rattle.std.specs.Prelude.{◌≡◌, ℕ, ◌≤◌, List, [], ◌∷◌, map, false, Option, Some, None}
 use Rattle.std.specs.FinMap as table
 use Rattle.mount_model.specs.declared.event.Owner.{Owner}
 use Rattle.mount_model.specs.declared.event.Owner.TheVariants as owner
@@ -8,15 +8,10 @@ use Rattle.mount_model.specs.declared.request.Request.TheVariants.{Await, Sync, 
 use Rattle.mount_model.specs.declared.standing.Phase.{Phase}
 use Rattle.mount_model.specs.declared.standing.Phase.TheVariants.{Waiting, Begun, Replied}
 use Rattle.mount_model.specs.declared.standing.Standing.{Standing}
-use Rattle.mount_model.specs.State.{ClientState, Job, line_at}
+use Rattle.mount_model.specs.State.{ClientState, Job, line_at, AreNumbered}
 use Rattle.mount_model.specs.Run.{AreRising, is_among, due_awaits}
 use Rattle.run_laws.specs.Counts.{total, if_live, if_line}
 use Rattle.run_laws.specs.Writers.{HasWriters, AreAtWork}
-
--- jobs are numbered one by one
-abbrev pub AreNumbered : ℕ → List Job → Type 0
-AreNumbered number [] = Unit {0}
-AreNumbered number (job ∷ jobs) = (job.number ≡ number) × AreNumbered (number + 1) jobs
 
 -- how many jobs of a line are ready or out; a writer's job is no line's
 

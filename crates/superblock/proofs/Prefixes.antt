@@ -6,6 +6,7 @@ use Rattle.std.proofs.Math.Seq.{take-add}
 use Rattle.std.proofs.lemmas.Bool.{eqb-true}
 use Rattle.std.proofs.lemmas.List.{drop_more, take_more, drop-drop, get_or-drop}
 use Rattle.std.proofs.lemmas.List.Sums.{passes_at_first, prefix_len-le-length}
+use Rattle.mp_types.specs.Key.{max_key_length}
 use Rattle.mp_types.specs.Path.{slash, is_slash, names_in, are_names}
 use Rattle.mp_rules.specs.declared.facts.Fact.{Fact}
 use Rattle.mp_rules.specs.declared.facts.Question.{Question}
@@ -46,7 +47,7 @@ slash_at path start more =
     sym (get_or-drop start path (name_length (drop start path)) 0) ∙ eqb-true _ _ (passes_at_first is_slash (drop start path) 0 short)
 
 -- where the name that begins at a place ends
-pub stop_at : (path : List ℕ) (start : ℕ) → length path ≤ 1024 → start ≤ length path → 0 < start + name_length (drop start path) → IsStop path (start + name_length (drop start path))
+pub stop_at : (path : List ℕ) (start : ℕ) → length path ≤ max_key_length → start ≤ length path → 0 < start + name_length (drop start path) → IsStop path (start + name_length (drop start path))
 stop_at path start short within some = record {
   short = short;
   some = some;

@@ -1,14 +1,14 @@
 -- What a decision of the code says.
-use Rattle.std.specs.Prelude.{◌≡◌, ◌<◌, ◌≤◌, length, Option, Some, None}
-use Rattle.mp_rules.specs.declared.facts.Question.TheVariants as question
+use Rattle.std.specs.Prelude.{◌≡◌, Option, Some, None}
+use Rattle.mp_types.specs.Key.{IsKeyText}
+use Rattle.mp_rules.specs.QuestionRef.{as_question, key_in}
 use Rattle.mp_rules.specs.Walk.{Decision as Meaning, Need, Is as Stands, Refused as Fails, below}
 use Rattle.superblock.specs.declared.decision.Decision.{Decision}
-use Rattle.superblock.specs.declared.decision.Decision.TheVariants.{Probe, Head, Is, Refused}
+use Rattle.superblock.specs.declared.decision.Decision.TheVariants.{Ask, Is, Refused}
 
--- a key that is asked about has 1 to 1,024 bytes
+-- a key that is asked about is as long as a key may be
 abbrev pub Decides : Decision → Meaning → Type 0
-Decides (Probe key) meant = (meant ≡ Need (question.Probe key.now)) × (0 < length key.now) × (length key.now ≤ 1024)
-Decides (Head key) meant = (meant ≡ Need (question.Head key.now)) × (0 < length key.now) × (length key.now ≤ 1024)
+Decides (Ask asked) meant = (meant ≡ Need (as_question asked)) × IsKeyText (key_in asked)
 Decides (Is entry) meant = meant ≡ Stands entry
 Decides (Refused errno) meant = meant ≡ Fails errno
 

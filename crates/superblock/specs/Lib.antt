@@ -1,4 +1,3 @@
-pub mod Asked
 pub mod Decided
 pub mod Hiding
 pub mod Prefix

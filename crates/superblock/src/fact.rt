@@ -1,40 +1,22 @@
 ghost use Rattle.std.specs.Prelude.{◌≡◌, ◌<◌, None, length, drop, slice_get, option_copied, option_to_list, MatchOption};
 ghost use Rattle.std.specs.List.{find, position};
+ghost use Rattle.mp_rules.specs.QuestionRef.{as_question};
 ghost use Rattle.mp_rules.specs.Walk.{AreDistinct, fact_in, is_question, with_last};
-ghost use Rattle.superblock.specs.Asked.{question_of};
 
-use mp_rules::{Fact, Known, Question};
+use mp_rules::{Fact, Known, QuestionRef};
 
-/// A question about a key that stands in a text of someone else.
-#[derive(Clone, Copy)]
-pub enum Asked<'a> {
-    Head(&'a str),
-    Probe(&'a str),
-}
-
-fn is_asked(asked: Asked<'_>, question: &Question) -> bool
-    ensures { result ≡ is_question (question_of asked.entry) question.now }
+fn place_in(asked: QuestionRef<'_>, own: &[Known]) -> Option<usize>
+    ensures { result ≡ position (λ known. is_question (as_question asked.entry) known.question) own.now }
 {
-    match (asked, question) {
-        (Asked::Head(key), Question::Head(other)) => *key == *other.as_str(),
-        (Asked::Probe(key), Question::Probe(other)) => *key == *other.as_str(),
-        _ => false,
-    }
-}
-
-fn place_in(asked: Asked<'_>, own: &[Known]) -> Option<usize>
-    ensures { result ≡ position (λ known. is_question (question_of asked.entry) known.question) own.now }
-{
-    own.iter()
-        .position(|known| is_asked(asked, &known.question))
+    own.iter().position(|known| known.question.is(asked))
 }
 
 // The place of a question's own fact, where it stands at this one or behind it.
-fn place_from(asked: Asked<'_>, own: &[Known], start: usize) -> Option<usize>
+fn place_from(asked: QuestionRef<'_>, own: &[Known], start: usize) -> Option<usize>
     requires { AreDistinct own.now }
     ensures { MatchOption result
-        (find (λ known. is_question (question_of asked.entry) known.question) (drop start own.now) ≡ None)
-        (λ place. (place < length own.now) × (find (λ known. is_question (question_of asked.entry) known.question) own.now ≡ slice_get own.now place)) }
+        (find (λ known. is_question (as_question asked.entry) known.question) (drop start own.now) ≡ None)
+        (λ place. (place < length own.now) × (find (λ known. is_question (as_question asked.entry) known.question) own.now ≡ slice_get own.now place)) }
 {
     let behind = place_in(asked, own.get(start..)?)?;
     Some(start + behind)
@@ -42,9 +24,9 @@ fn place_from(asked: Asked<'_>, own: &[Known], start: usize) -> Option<usize>
 
 // The own fact of a question. A walk mostly meets its facts in their order, so those behind the last one found come
 // first.
-fn known_among<'a>(asked: Asked<'_>, own: &'a [Known], next: &mut usize) -> Option<&'a Known>
+fn known_among<'a>(asked: QuestionRef<'_>, own: &'a [Known], next: &mut usize) -> Option<&'a Known>
     requires { AreDistinct own.now }
-    ensures { option_copied result ≡ find (λ known. is_question (question_of asked.entry) known.question) own.now }
+    ensures { option_copied result ≡ find (λ known. is_question (as_question asked.entry) known.question) own.now }
 {
     let place = match place_from(asked, own, *next) {
         Some(place) => place,
@@ -54,11 +36,11 @@ fn known_among<'a>(asked: Asked<'_>, own: &'a [Known], next: &mut usize) -> Opti
     own.get(place)
 }
 
-fn known_last<'a>(asked: Asked<'_>, last: Option<&'a Known>) -> Option<&'a Known>
-    ensures { option_copied result ≡ find (λ known. is_question (question_of asked.entry) known.question) (option_to_list (option_copied last.entry)) }
+fn known_last<'a>(asked: QuestionRef<'_>, last: Option<&'a Known>) -> Option<&'a Known>
+    ensures { option_copied result ≡ find (λ known. is_question (as_question asked.entry) known.question) (option_to_list (option_copied last.entry)) }
 {
     match last {
-        Some(known) if is_asked(asked, &known.question) => Some(known),
+        Some(known) if known.question.is(asked) => Some(known),
         _ => None,
     }
 }
@@ -66,13 +48,13 @@ fn known_last<'a>(asked: Asked<'_>, last: Option<&'a Known>) -> Option<&'a Known
 /// The answer to a question, where it is among the own ones or is the last one. `next` is the place behind the last own
 /// one found, and only makes the look-up fast.
 pub fn fact_of<'a>(
-    asked: Asked<'_>,
+    asked: QuestionRef<'_>,
     own: &'a [Known],
     last: Option<&'a Known>,
     next: &mut usize,
 ) -> Option<&'a Fact>
     requires { AreDistinct own.now }
-    ensures { option_copied result ≡ fact_in (with_last (option_copied last.entry) own.now) (question_of asked.entry) }
+    ensures { option_copied result ≡ fact_in (with_last (option_copied last.entry) own.now) (as_question asked.entry) }
 {
     let known = known_among(asked, own, next).or(known_last(asked, last))?;
     Some(&known.fact)

@@ -1,6 +1,6 @@
 use super::*;
 use local_names::Locals;
-use mp_rules::{Entry, Fact, Known, OwnFacts, Question};
+use mp_rules::{Entry, Fact, Known, OwnFacts, Question, QuestionRef};
 use mp_types::{ETag, Errno, Key};
 use std::alloc::Global;
 use std::test::*;
@@ -43,11 +43,11 @@ fn found(size: u64) -> Result<Fact, Fail> {
 }
 
 fn asks_probe(decision: Decision, key: &str) -> bool {
-    matches!(decision, Decision::Probe(asked) if asked == key)
+    matches!(decision, Decision::Ask(QuestionRef::Probe(asked)) if asked == key)
 }
 
 fn asks_head(decision: Decision, key: &str) -> bool {
-    matches!(decision, Decision::Head(asked) if asked == key)
+    matches!(decision, Decision::Ask(QuestionRef::Head(asked)) if asked == key)
 }
 
 fn is_remote(decision: Decision) -> bool {

@@ -1,4 +1,5 @@
-ghost use Rattle.std.specs.Prelude.{◌≡◌, ◌<◌, ◌≤◌, true, length, option_copied};
+ghost use Rattle.std.specs.Prelude.{◌≡◌, true, option_copied};
+ghost use Rattle.mp_types.specs.Key.{IsKeyText};
 ghost use Rattle.mp_types.specs.Path.{are_names, names_in};
 ghost use Rattle.mp_rules.specs.declared.facts.Question.TheVariants as question;
 ghost use Rattle.mp_rules.specs.Local.{local_at};
@@ -7,21 +8,20 @@ ghost use Rattle.superblock.specs.Decided.{Decides, StopsAt};
 ghost use Rattle.superblock.specs.Walked.{walk_of};
 
 use crate::Decision;
-use crate::fact::{Asked, fact_of};
+use crate::fact::fact_of;
 use crate::prefix::name_end;
 use local_names::Locals;
-use mp_rules::{Entry, Fact, Known, Local, OwnFacts};
+use mp_rules::{Entry, Fact, Known, Local, OwnFacts, QuestionRef};
 use mp_types::Errno;
 
 // What stands at a key where the bucket has no key below it and nothing is local.
 fn file_at<'a>(key: &'a str, own: &[Known], last: Option<&Known>, next: &mut usize) -> Decision<'a>
     requires distinct { AreDistinct own.now }
-    requires some { 0 < length key.now }
-    requires short { length key.now ≤ 1024 }
+    requires key { IsKeyText key.now }
     ensures { Decides result (by_head key.now (fact_in (with_last (option_copied last.entry) own.now) (question.Head key.now))) }
 {
-    match fact_of(Asked::Head(key), own, last, next) {
-        None => Decision::Head(key),
+    match fact_of(QuestionRef::Head(key), own, last, next) {
+        None => Decision::Ask(QuestionRef::Head(key)),
         Some(Fact::Found { etag, size }) => Decision::Is(Entry::File {
             etag: etag.copy(),
             size: *size,
@@ -39,8 +39,7 @@ fn local_or_file_at<'a>(
     next: &mut usize,
 ) -> Decision<'a>
     requires distinct { AreDistinct own.now }
-    requires some { 0 < length key.now }
-    requires short { length key.now ≤ 1024 }
+    requires key { IsKeyText key.now }
     ensures { Decides result (by_local key.now (local_at names.now key.now) (fact_in (with_last (option_copied last.entry) own.now) (question.Head key.now))) }
 {
     match names.at(key) {
@@ -59,12 +58,11 @@ fn entry_at<'a>(
     next: &mut usize,
 ) -> Decision<'a>
     requires distinct { AreDistinct own.now }
-    requires some { 0 < length key.now }
-    requires short { length key.now ≤ 1024 }
+    requires key { IsKeyText key.now }
     ensures { Decides result (entry_at (fact_in (with_last (option_copied last.entry) own.now)) (local_at names.now) key.now) }
 {
-    match fact_of(Asked::Probe(key), own, last, next) {
-        None => Decision::Probe(key),
+    match fact_of(QuestionRef::Probe(key), own, last, next) {
+        None => Decision::Ask(QuestionRef::Probe(key)),
         Some(Fact::Yes) => Decision::Is(Entry::RemoteDir),
         Some(_) => local_or_file_at(key, names, own, last, next),
     }
@@ -87,8 +85,7 @@ fn stop_above(found: Decision<'_>) -> Option<Decision<'_>>
 fn walk<'a>(path: &'a str, names: &Locals, own: &[Known], last: Option<&Known>) -> Decision<'a>
     requires distinct { AreDistinct own.now }
     requires names { are_names (names_in path.now) ≡ true }
-    requires some { 0 < length path.now }
-    requires short { length path.now ≤ 1024 }
+    requires key { IsKeyText path.now }
     ensures { Decides result (walk_of (fact_in (with_last (option_copied last.entry) own.now)) (local_at names.now) (names_in path.now)) }
 {
     let mut end = name_end(path, 0);
@@ -111,8 +108,7 @@ pub fn decide<'a>(
     last: Option<&Known>,
 ) -> Decision<'a>
     requires names { are_names (names_in path.now) ≡ true }
-    requires short { length path.now ≤ 1024 }
-    requires some { 0 < length path.now }
+    requires key { IsKeyText path.now }
     ensures { Decides result (walk_of (fact_in (with_last (option_copied last.entry) own.now)) (local_at names.now) (names_in path.now)) }
 {
     walk(path, names, own.as_slice(), last)

@@ -65,7 +65,7 @@ part-left bytes asked has = go (bytes == 0) (asked == 0) refl refl has
     go true c none first has = inr (eqb-true asked 0 (let same : (asked == 0) ≡ true = cc in same))
     go false c none first has = inl (let some = eqb-false bytes 0 none in omega arith)
 
-no-part-left : (bytes asked : ℕ) → (not (bytes == 0) || asked == 0) ≡ false → (bytes ≡ 0) × (1 ≤ asked)
+pub no-part-left : (bytes asked : ℕ) → (not (bytes == 0) || asked == 0) ≡ false → (bytes ≡ 0) × (1 ≤ asked)
 no-part-left bytes asked has = go (bytes == 0) (asked == 0) refl refl has
   where
     go : (b c : Bool) → (bytes == 0) ≡ b → (asked == 0) ≡ c → (not b || c) ≡ false → (bytes ≡ 0) × (1 ≤ asked)

@@ -1,19 +1,14 @@
 -- Jobs that are found by their numbers, before and after a change.
 use Rattle.std.proofs.Common.{◌≡◌, ◌≢◌, ℕ, ◌+◌, List, [], ◌∷◌, ◌++◌, map, length, cond, Bool, true, false, ◌==◌, if◌then◌else◌, Some, None, ◌⊎◌, inl, inr, refl, sym, ap, ◌∙◌, arith, eqb-true, eq-eqb, ne_eqb}
+use Rattle.std.proofs.lemmas.List.Folds.{find-append}
 use Rattle.mount_model.specs.declared.event.Owner.TheVariants as owner
-use Rattle.mount_model.specs.State.{Job, JobPhase, Ready, Gone, job_at, in_phase, is_ready_for}
-use Rattle.run_laws.specs.Alive.{AreNumbered}
+use Rattle.mount_model.specs.State.{Job, JobPhase, Ready, Gone, job_at, in_phase, is_ready_for, AreNumbered}
 use Rattle.run_laws.proofs.Keyed.{item_at-key}
 use Rattle.run_laws.proofs.Jobs.{job_number, found-of-two}
 use Rattle.run_laws.proofs.Dropped.{if_dropped, ready-is}
 
 pub found-front : (k : ℕ) (jobs more : List Job) (job : Job) → job_at k jobs ≡ Some job → job_at k (jobs ++ more) ≡ Some job
-found-front k [] more job is = absurd (cc)
-found-front k (first ∷ jobs) more job is = go (first.number == k) is (found-front k jobs more job)
-  where
-    go : (b : Bool) → cond b (Some first) (job_at k jobs) ≡ Some job → (job_at k jobs ≡ Some job → job_at k (jobs ++ more) ≡ Some job) → cond b (Some first) (job_at k (jobs ++ more)) ≡ Some job
-    go true is ih = is
-    go false is ih = ih is
+found-front k jobs more job is = rw (find-append, is) refl
 
 pub found-number : (k : ℕ) (jobs : List Job) (job : Job) → job_at k jobs ≡ Some job → job.number ≡ k
 found-number k jobs job is = item_at-key job_number k jobs job is

@@ -8,10 +8,10 @@ use Rattle.mount_model.specs.declared.event.Answered.{Answered}
 use Rattle.mount_model.specs.Step.{Step}
 use Rattle.mount_model.specs.Handles.{Writer}
 use Rattle.mount_model.specs.Writers.{Asking, asking_for, first_asks, has_failed}
-use Rattle.mount_model.specs.State.{ClientState, Job, jobs_at, ready_for, calls_in, gives_up, behind_asks, behind_drops, calls_of, jobs_made, jobs_of_writer}
+use Rattle.mount_model.specs.State.{ClientState, Job, jobs_at, ready_for, calls_in, gives_up, behind_asks, behind_drops, calls_of, jobs_made, jobs_of_writer, AreNumbered}
 use Rattle.mount_model.specs.Run.{jobs_called, TakesTurnOfWriter}
-use Rattle.run_laws.specs.Alive.{AreNumbered}
-use Rattle.run_laws.proofs.Jobs.{Rises-jobs, numbered-push}
+use Rattle.mount_model.proofs.Numbered.{numbered-push}
+use Rattle.run_laws.proofs.Jobs.{Rises-jobs}
 use Rattle.run_laws.proofs.Dropped.{drop_one, if_dropped, dropped, dropped-is}
 use Rattle.run_laws.proofs.Asked.{asked_jobs, asked-append, asked-front, writer_job}
 use Rattle.write_laws.proofs.Found.{moves-dropped, dropped-other, found-moved}

@@ -1,8 +1,8 @@
 -- What is accounted for holds along each run.
-use Rattle.std.proofs.Common.{◌≡◌, ℕ, List, [], ◌∷◌, ◌++◌, fold, Some, None, inl, refl, sym, ap, ◌∙◌, subst, append_assoc, append-nil}
+use Rattle.std.proofs.Common.{◌≡◌, ℕ, List, [], ◌∷◌, ◌++◌, fold, Some, inl, refl, sym, ap, ◌∙◌, subst, append_assoc, append-nil}
 use Rattle.std.proofs.lemmas.Grind.{fold-append}
 use Rattle.std.specs.FinMap as table
-use Rattle.mp_types.specs.HandleName.{HandleName, name_cmp}
+use Rattle.mp_types.specs.HandleName.{HandleName}
 use Rattle.mp_types.specs.declared.options.Opts.{Opts}
 use Rattle.mp_types.specs.Options.{AreWithin}
 use Rattle.bucket_model.specs.Along.{Along}
@@ -11,15 +11,16 @@ use Rattle.bucket_model.specs.History.{IsLegalHistory}
 use Rattle.mount_model.specs.declared.handle.Handle.TheVariants.{Writing}
 use Rattle.mount_model.specs.declared.request.Line.{Line}
 use Rattle.mount_model.specs.Step.{Step}
-use Rattle.mount_model.specs.Handles.{Handle, Writer}
+use Rattle.mount_model.specs.Handles.{Writer}
 use Rattle.mount_model.specs.State.{ClientState, opening, after, state_after}
 use Rattle.mount_model.specs.Run.{AreRising, IsLegalStep}
 use Rattle.mount_model.specs.Tied.{TiesEvent}
+use Rattle.mount_model.specs.Written.{HasStood}
 use Rattle.run_laws.specs.Alive.{IsAlive}
 use Rattle.run_laws.proofs.Handles.{handle-at}
 use Rattle.run_laws.proofs.Conversation.{opens-name}
-use Rattle.run_laws.proofs.Alive.{alive-step, opening-alive}
-use Rattle.write_laws.specs.Accounted.{Place, with_place, HasStood, IsAccounted, taken_in}
+use Rattle.run_laws.proofs.Alive.{alive-step, opening-alive, no-handle}
+use Rattle.write_laws.specs.Accounted.{Place, with_place, IsAccounted, taken_in}
 use Rattle.write_laws.proofs.Filled.{Grows}
 use Rattle.write_laws.proofs.Accepted.{accepted-push}
 use Rattle.write_laws.proofs.Turns.{IsBefore, event-grows}
@@ -72,9 +73,6 @@ stood-now options script steps more name w alive stands =
     }
 
 -- before the first step
-
-no-handle : (q : HandleName) → table.get (table.empty {X = Handle} {R = name_cmp}) q ≡ None
-no-handle q = table.get-empty name_cmp q
 
 pub opening-accounted : (log : List Logged) (start : ℕ) (options : Opts) (script : List Line) → IsAccounted log start (HasStood options script []) (taken_in options script []) [] (opening options script)
 opening-accounted log start options script = record {

@@ -24,9 +24,9 @@ use Rattle.mount_model.specs.Step.{Step}
 use Rattle.mount_model.specs.Handles.{Writer, handle_of}
 use Rattle.mount_model.specs.State.{ClientState, Job, positions_after, reply_in, after, state_after}
 use Rattle.mount_model.specs.Run.{AreRising, is_among, MayCome, IsLegalStep}
-use Rattle.mount_model.specs.Written.{IsCompletion, IsMadeAt, IsThere, IsTakenBehind, accepted}
+use Rattle.mount_model.specs.Written.{HasStood, IsCompletion, IsMadeAt, IsTakenBehind, IsThere, accepted}
 use Rattle.run_laws.proofs.Lines.{lines_of_run}
-use Rattle.write_laws.specs.Accounted.{Place, StandsAt, with_place, HasCreated, HasMade, HasStood, IsWholeJob, AreAccounted, taken_in}
+use Rattle.write_laws.specs.Accounted.{Place, StandsAt, with_place, HasCreated, HasMade, IsWholeJob, AreAccounted, taken_in}
 use Rattle.write_laws.proofs.Filled.{Grows}
 use Rattle.write_laws.proofs.Events.{among-below}
 use Rattle.write_laws.proofs.Accepted.{created-once, among-push}

@@ -22,13 +22,13 @@ use Rattle.mount_model.specs.Tied.{HasEntry}
 use Rattle.mount_model.specs.Step.{Step}
 use Rattle.mount_model.specs.Handles.{Writer}
 use Rattle.mount_model.specs.Writers.{Asking, id_in, asking_for, first_asks, ask_times, has_failed, settled, back_times}
-use Rattle.mount_model.specs.State.{ClientState, Job, JobPhase, Ready, Out, Gone, job_at, jobs_at, ready_for, calls_in, gives_up, behind_asks, behind_drops, behind_step, calls_of, jobs_made, jobs_of_writer}
+use Rattle.mount_model.specs.State.{ClientState, Job, JobPhase, Ready, Out, Gone, job_at, jobs_at, ready_for, calls_in, gives_up, behind_asks, behind_drops, behind_step, calls_of, jobs_made, jobs_of_writer, AreNumbered}
 use Rattle.mount_model.specs.Run.{jobs_called, TakesTurnOfWriter}
-use Rattle.run_laws.specs.Alive.{AreNumbered}
+use Rattle.mount_model.proofs.Numbered.{numbered-push}
 use Rattle.run_laws.specs.Counts.{any_call, is_complete, is_abort, calls_out, calls_made}
 use Rattle.run_laws.specs.Uploads.{Tally, IsGoing, IsTallied}
 use Rattle.run_laws.specs.Writers.{tally}
-use Rattle.run_laws.proofs.Jobs.{Rises-jobs, numbered-push, out-one, made-one}
+use Rattle.run_laws.proofs.Jobs.{Rises-jobs, out-one, made-one}
 use Rattle.run_laws.proofs.Dropped.{drop_one, if_dropped, dropped, dropped-is, dropped-out, dropped-numbered, dropped-length, drops-count}
 use Rattle.run_laws.proofs.Places.{pending-settled, pending-back}
 use Rattle.run_laws.proofs.Asked.{AsksAll, asked_jobs, asked-append, asked-front, asked-length, writer_job, IsInTurn, asks-along, ask-turn}

@@ -16,11 +16,11 @@ use Rattle.mount_model.specs.declared.event.Owner.TheVariants as owner
 use Rattle.mount_model.specs.Step.{Step}
 use Rattle.mount_model.specs.State.{ClientState, Job, job_at, state_after}
 use Rattle.mount_model.specs.Run.{is_among}
-use Rattle.mount_model.specs.Written.{IsCompletion, IsMadeAt, IsOfWriter, accepted}
+use Rattle.mount_model.specs.Written.{HasStood, IsCompletion, IsMadeAt, IsOfWriter}
 use Rattle.run_laws.specs.Counts.{is_complete, if_writer, made_job, calls_made}
 use Rattle.run_laws.proofs.Keyed.{total-two}
 use Rattle.run_laws.proofs.Jobs.{job_number, if_writer-own}
-use Rattle.write_laws.specs.Accounted.{Place, StandsAt, upload_in, HasCreated, IsWholeJob, AreAccounted, HasStood, IsAccounted, taken_in}
+use Rattle.write_laws.specs.Accounted.{Place, StandsAt, upload_in, HasCreated, IsWholeJob, AreAccounted, IsAccounted, taken_in}
 use Rattle.write_laws.proofs.Filled.{same-found}
 use Rattle.write_laws.proofs.Accepted.{created-once}
 use Rattle.write_laws.proofs.Run.{IsSound}
@@ -173,14 +173,8 @@ module _ (log : List Logged) (start : ℕ) (options : Opts) (script : List Line)
       let has = completed-job position upload count of in
       let makes = completed-makes position upload count made.logged has made.stands called.2 in
       let same = named-is made.logged.made (whole_from has.is.key has.is.parts) (record { key = key; etag = made.etag; bytes = bytes }) (sym makes ∙ made.makes) in
-      let stood = has.is.stands in
       record {
-        before = stood.before;
-        later = stood.later;
-        are = stood.are;
-        line = stood.line;
-        writer = stood.writer;
-        holds = stood.holds;
-        of_key = stood.of_key ∙ sym same.0;
-        of_bytes = ap (λ (n : ℕ). accepted n options script steps) stood.of_line ∙ sym has.is.bytes ∙ sym same.1;
+        opened = has.is.opened;
+        stood = subst (λ (k : List ℕ). HasStood options script steps has.is.opened k) (sym same.0) has.is.stands;
+        of_bytes = sym has.is.bytes ∙ sym same.1;
       }

@@ -20,9 +20,9 @@ use Rattle.mount_model.specs.declared.event.Event.{Event}
 use Rattle.mount_model.specs.declared.event.Event.TheVariants.{Done}
 use Rattle.mount_model.specs.declared.event.Owner.TheVariants as owner
 use Rattle.mount_model.specs.Step.{Step}
-use Rattle.mount_model.specs.Handles.{Writer, handle_of}
+use Rattle.mount_model.specs.Handles.{Writer}
 use Rattle.mount_model.specs.Writers.{has_failed}
-use Rattle.mount_model.specs.State.{ClientState, Job, JobPhase, Out, Gone, job_at, state_after}
+use Rattle.mount_model.specs.State.{ClientState, Job, JobPhase, Out, Gone, job_at}
 use Rattle.mount_model.specs.Run.{is_among}
 use Rattle.mount_model.specs.Tied.{HasEntry}
 use Rattle.mount_model.specs.Written.{accepted}
@@ -154,17 +154,6 @@ pub record IsFilled (log : List Logged) (places : List Place) (jobs : List Job) 
   pub jobs_are : AreOfWriter log places jobs opened key parts u.created
   pub found : has_failed u ≡ false → (index : ℕ) (some : List ℕ) → slice_get parts index ≡ Some some → HasPart log places jobs opened (index + 1) some
   pub made : u.state ≡ state.Done → HasMade log places jobs opened key
-
--- a writer of this line stood under a name, for this key
-pub record HasStood (options : Opts) (script : List Line) (steps : List Step) (opened : ℕ) (key : List ℕ) : Type 0 where
-  pub before : List Step
-  pub later : List Step
-  pub are : steps ≡ before ++ later
-  pub line : Line
-  pub writer : Writer
-  pub holds : handle_of line (state_after options script before).shared.handles ≡ Some (Writing writer)
-  pub of_key : writer.key ≡ key
-  pub of_line : writer.line ≡ opened
 
 -- What holds of a state, where these writers have stood and their bytes were taken.
 pub record IsAccounted (log : List Logged) (start : ℕ) (stood : ℕ → List ℕ → Type 0) (taken : ℕ → List ℕ) (places : List Place) (now : ClientState) : Type 0 where

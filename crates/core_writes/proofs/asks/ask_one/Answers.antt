@@ -1,7 +1,7 @@
 use Rattle.std.proofs.Common.{◌+◌, Some, Result, Ok, Err, refl, ap}
 use Rattle.std.specs.Result.{OnErr}
+use Rattle.mount_model.proofs.Steps.{HasStep-change_last}
 use Rattle.job_table.specs.LiveJobs.{Held, LiveJobs}
-use Rattle.job_table.proofs.Steps.{has_step-changed}
 use Rattle.core_writes.proofs.Asked.{has-none}
 use Rattle.core_writes.proofs.Paid.{paid-ask}
 use Rattle.core_writes.proofs.asks.ask_one.Goals as goal
@@ -22,5 +22,5 @@ pub returns-clause-paid : goal.returns-clause-paid
 returns-clause-paid c =
     let job = c.in_ok-job.job in
     let h : Held = record { number = c.args.jobs.now.count + 1; owner = job.owner; line = job.line; call = Some job.call; purpose = job.purpose } in
-    let step = has_step-changed _ _ c.requires.step in
+    let step = HasStep-change_last _ _ c.requires.step in
     paid-ask c.args.jobs.now c.ask.new.self c.args.journal.now c.ask.new.journal c.args.owed.now h (rw c.in_ok-ask.ensures.steps step) c.in_ok-ask.ensures.known c.in_ok-ask.ensures.room (ap (λ (j : LiveJobs). j.held) c.in_ok-ask.ensures.ok) refl

@@ -1,6 +1,6 @@
 use Rattle.std.proofs.Common.{refl, arith}
+use Rattle.mount_model.proofs.Steps.{HasStep-change_last}
 use Rattle.job_table.specs.LiveJobs.{without}
-use Rattle.job_table.proofs.Steps.{has_step-changed}
 use Rattle.core_writes.proofs.Dropped.{first-goes}
 use Rattle.core_writes.proofs.Paid.{paid-drop}
 use Rattle.core_writes.proofs.drops.drop_first.Goals as goal
@@ -18,7 +18,7 @@ overflow_sub-owed c =
 pub returns-clause-paid : goal.returns-clause-paid
 returns-clause-paid c =
     let goes = first-goes c.args.writer.now.line c.args.job c.args.jobs.now.held c.drop_job.new.self.held c.requires.first c.drop_job.ensures.held in
-    let step = has_step-changed _ _ c.requires.step in
+    let step = HasStep-change_last _ _ c.requires.step in
     paid-drop c.args.jobs.now c.drop_job.new.self c.args.journal.now c.drop_job.new.journal c.args.owed.now (rw c.drop_job.ensures.steps step) c.drop_job.ensures.known c.requires.enough c.drop_job.ensures.room goes.owes c.requires.owes
 
 pub returns-clause-owes : goal.returns-clause-owes

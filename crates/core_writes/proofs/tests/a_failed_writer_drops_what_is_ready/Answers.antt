@@ -1,11 +1,11 @@
 -- One job at most is ready, and its call isn't back.
 use Rattle.std.proofs.Common.{◌≡◌, ◌≤◌, ℕ, ◌+◌, [], ◌∷◌, ◌++◌, map, length, cond, Bool, true, false, Some, refl, ap, ◌∙◌, arith}
 use Rattle.job_table.specs.LiveJobs.{Held, LiveJobs, ready_of_writer, is_ready_of_writer}
-use Rattle.job_table.proofs.Steps.{has_step-changed}
 use Rattle.mp_types.specs.declared.errno.Errno.TheVariants.{Enomem}
 use Rattle.upload_rules.specs.declared.upload.UpState.{UpState}
 use Rattle.upload_rules.specs.declared.upload.UpState.TheVariants.{Open, Finished, Done, Failed}
 use Rattle.upload_rules.specs.Upload.{Upload, fails_with}
+use Rattle.mount_model.proofs.Steps.{HasStep-change_last}
 use Rattle.core_writes.proofs.tests.a_failed_writer_drops_what_is_ready.Goals as goal
 
 at_most_one : (line : ℕ) (h : Held) → length (ready_of_writer line (h ∷ [])) ≤ 1
@@ -22,7 +22,7 @@ still_out u Done at = rw at refl
 still_out u (Failed errno) at = rw at refl
 
 pub take_turn-answer-requires-clause-step : goal.take_turn-answer-requires-clause-step
-take_turn-answer-requires-clause-step g c = rw c.in_ok-ask.ensures.steps (has_step-changed _ _ c.in_ok-journal.ensures)
+take_turn-answer-requires-clause-step g c = rw c.in_ok-ask.ensures.steps (HasStep-change_last _ _ c.in_ok-journal.ensures)
 
 pub take_turn-answer-requires-clause-at_work : goal.take_turn-answer-requires-clause-at_work
 take_turn-answer-requires-clause-at_work g c =

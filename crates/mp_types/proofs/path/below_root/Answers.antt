@@ -8,10 +8,10 @@ returns-in_default c = no_slash c.args.text.now (strip_prefix_char 47 c.args.tex
 
 pub returns-in-Some-first_bad_name : goal.returns-in-Some-first_bad_name
 returns-in-Some-first_bad_name c =
-    bad_name c.args.text.now c.in-Some.below.now c.in-Some-first_bad_name.place (strip_prefix_char 47 c.args.text.now (Some c.in-Some.below) c.in-Some.ensures.cases (lit< tt)) c.if-below-gt1024.false
+    bad_name c.args.text.now c.in-Some.below.now c.in-Some-first_bad_name.place (strip_prefix_char 47 c.args.text.now (Some c.in-Some.below) c.in-Some.ensures.cases (lit< tt)) c.if-below-gt-MAX_KEY_LENGTH.false
     (sym c.is_empty.ensures ∙ c.if-is_empty.false) (sym c.in-Some-first_bad_name.ensures)
 
 pub returns-in-None : goal.returns-in-None
 returns-in-None c =
-    is_path c.args.text.now c.in-Some.below.now (strip_prefix_char 47 c.args.text.now (Some c.in-Some.below) c.in-Some.ensures.cases (lit< tt)) c.if-below-gt1024.false
+    is_path c.args.text.now c.in-Some.below.now (strip_prefix_char 47 c.args.text.now (Some c.in-Some.below) c.in-Some.ensures.cases (lit< tt)) c.if-below-gt-MAX_KEY_LENGTH.false
     (sym c.is_empty.ensures ∙ c.if-is_empty.false) (sym c.in-None.ensures)

@@ -12,8 +12,8 @@ loop-end-init c =
     let facts = fact_in (with_last (option_copied c.args.last) c.args.own.now) in
     let locally = local_at c.args.names.now in
     record {
-      stop = rw c.name_end-end.ensures (stop_at path 0 c.requires.short (omega arith) (omega (arith, first_not_empty path c.requires.some c.requires.names)));
-      same = begins facts locally path c.name_end-end.result c.requires.some c.name_end-end.ensures;
+      stop = rw c.name_end-end.ensures (stop_at path 0 c.requires.key.1 (omega arith) (omega (arith, first_not_empty path c.requires.key.0 c.requires.names)));
+      same = begins facts locally path c.name_end-end.result c.requires.key.0 c.name_end-end.ensures;
     }
 
 pub returns-in-Some : goal.returns-in-Some
@@ -38,6 +38,6 @@ loop-end-preserved c =
     let found = at_prefix facts locally path end c.entry_at.result c.range.result.now c.range.ensures.value c.entry_at.ensures in
     let rest = walk facts locally (take next path) (names_behind (drop next path)) in
     record {
-      stop = rw c.name_end-end-in-loop-end.ensures (stop_at path (end + 1) c.requires.short (omega arith) (omega arith));
+      stop = rw c.name_end-end-in-loop-end.ensures (stop_at path (end + 1) c.requires.key.1 (omega arith) (omega arith));
       same = c.loop-end.invariant.same ∙ (goes_on facts locally path end next c.loop-end.invariant.stop c.loop-end-test.true c.name_end-end-in-loop-end.ensures ∙ c.in_default.ensures (entry_at facts locally (take end path)) rest found);
     }

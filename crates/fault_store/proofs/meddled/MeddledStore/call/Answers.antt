@@ -1,6 +1,6 @@
 use Rattle.std.proofs.Common.{arith}
+use Rattle.mp_types.specs.Count.{risen}
 use Rattle.bucket_model.specs.Answers.{brief_of}
-use Rattle.fault_store.specs.Counts.{risen}
 use Rattle.fault_store.specs.Meddled.{IsLeftAlone, changes_at}
 use Rattle.fault_store.proofs.Making.{alone_makes, are_changes_at, faults_makes, grows_makes, honest_makes, never_makes, quiet_makes, tells_behind}
 use Rattle.fault_store.proofs.meddled.MeddledStore.call.Goals as goal

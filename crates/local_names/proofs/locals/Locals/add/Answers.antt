@@ -18,7 +18,7 @@ add_name-requires-clause-room c = λ q. omega (arith, count_most c.self.inside.n
 pub invariant_of-self : goal.invariant_of-self
 invariant_of-self c =
     let free : is_name (names_in c.self.inside.nodes) c.as_str-key.result.now ≡ false = (λ i. is_name (c.self.view_is i) (c.as_str-key.ensures.text i)) ∙ c.requires.new in
-    let some : 0 < length c.as_str-key.result.now = rw c.as_str-key.ensures.text c.as_str-key.ensures.not_empty in
+    let some : 0 < length c.as_str-key.result.now = rw c.as_str-key.ensures.text c.as_str-key.ensures.key.0 in
     by_result c.add_name.result c.add_name.ensures.kinds c.add_name.ensures.counts c.add_name.ensures.err
     (λ kinds counts. added_kept c.self.inside.nodes c.add_name.new.nodes c.self.invariant c.as_str-key.result.now c.args.kind c.requires.kind free kinds some counts)
     (λ same. same_kept c.self.inside.nodes c.add_name.new.nodes c.self.invariant same)

@@ -1,7 +1,7 @@
 use Rattle.std.proofs.Common.{◌≡◌, List, ℕ, [], false, rules, arith, refl, sym, ap, ◌∙◌, subst}
 use Rattle.std.specs.FinSet as set
 use Rattle.mp_rules.specs.Local.{LocalNames}
-use Rattle.local_names.specs.Under.{is_under}
+use Rattle.mp_rules.specs.Keys.{is_under}
 use Rattle.local_names.proofs.GivenUp.{IsGivingUp, given_first, given_next, given_last, given_none}
 use Rattle.local_names.proofs.Names.{empty_dirs, kept_root}
 use Rattle.local_names.proofs.locals.Locals.dirs_above.Goals as goal

@@ -13,4 +13,4 @@ returns-clause-served c =
     (served _ _ (get_answered _ c.self.inside.log.items c.args.key c.args.etag c.args.from c.args.to _ c.requires c.self.invariant c.in-Ok-get_answer.ensures.answer) c.self.invariant (cc) (omega (arith, c.self.inside.log.ok.0)))
 
 pub returns-clause-slice : goal.returns-clause-slice
-returns-clause-slice c = get_slice _ c.self.inside.log.items c.add_entry.new.log.items c.args.key c.args.etag c.args.from c.args.to _ c.self.invariant c.in-Ok-get_answer.ensures.answer (cc)
+returns-clause-slice c = get_slice _ c.self.inside.log.items c.log_answered.new.log.items c.args.key c.args.etag c.args.from c.args.to _ c.self.invariant c.in-Ok-get_answer.ensures.answer (cc)

@@ -2,8 +2,8 @@ use Rattle.std.proofs.Common.{[], ◌∷◌, ◌++◌, ◌∙◌, refl, sym, ap,
 use Rattle.mount_model.specs.declared.request.Reply.TheVariants.{Success}
 use Rattle.mount_model.specs.Step.{HasStep}
 use Rattle.mount_model.specs.Run.{due_awaits}
+use Rattle.mount_model.proofs.Steps.{HasStep-change_last}
 use Rattle.mount_core.specs.Turn.{with_part}
-use Rattle.mount_core.proofs.Steps.{HasStep-change_last}
 use Rattle.mount_core.proofs.Turns.{answers_more, answers_none, more_replied}
 use Rattle.mount_core.proofs.work.Work.answer_awaits.Goals as goal
 

@@ -1,7 +1,7 @@
 use Rattle.std.proofs.Common.{sym, ap, ◌∙◌}
 use Rattle.mount_model.specs.State.{change_line}
+use Rattle.line_table.proofs.Kept.{change_line-same}
 use Rattle.mount_core.specs.Turn.{heard_last}
-use Rattle.mount_core.proofs.Changes.{change_line-same}
 use Rattle.mount_core.proofs.Hearing.{owed_heard, lines_heard}
 use Rattle.mount_core.proofs.work.Work.keep_answer.Goals as goal
 

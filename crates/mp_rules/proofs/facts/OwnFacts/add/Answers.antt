@@ -4,20 +4,17 @@ use Rattle.mp_rules.specs.Walk.{fact_in, is_question}
 use Rattle.mp_rules.proofs.Answered.{answered-any, known-again, known-new, none-found}
 use Rattle.mp_rules.proofs.facts.OwnFacts.add.Goals as goal
 
--- src/facts.rt:133:13
 pub returns-then-is_answered-clause-ok : goal.returns-then-is_answered-clause-ok
 returns-then-is_answered-clause-ok c =
     let facts = c.as_slice.ensures ∙ c.self.view_is in
     let some : is_some (fact_in c.args.self.now c.args.known.question) ≡ true = sym (answered-any c.args.self.now c.args.known.question) ∙ (ap (list_any (λ k. is_question c.args.known.question k.question)) (sym facts) ∙ (sym c.is_answered.ensures ∙ c.if-is_answered.true)) in
     known-again c.args.self.now c.args.known some
 
--- src/facts.rt:135:9
 pub add_new-requires : goal.add_new-requires
 add_new-requires c =
     let facts = c.as_slice.ensures ∙ c.self.view_is in
     none-found (fact_in c.args.self.now c.args.known.question) (sym (answered-any c.args.self.now c.args.known.question) ∙ (ap (list_any (λ k. is_question c.args.known.question k.question)) (sym facts) ∙ (sym c.is_answered.ensures ∙ c.if-is_answered.false)))
 
--- src/facts.rt:128:5
 pub returns-clause-ok : goal.returns-clause-ok
 returns-clause-ok c =
     let facts = c.as_slice.ensures ∙ c.self.view_is in
