@@ -1,4 +1,5 @@
 ghost use Rattle.std.specs.Prelude.{◌≡◌, IfOk};
+ghost use Rattle.bucket_model.specs.declared.call.Call.TheVariants.{List, Put};
 
 use bytes::Bytes;
 use mp_types::{ETag, Key, Text};
@@ -61,53 +62,82 @@ pub enum Call {
     },
 }
 
+fn copied_list(alloc: Global, prefix: &Text, after: &Text, max: u32) -> Result<Call, AllocError>
+    ensures { IfOk result (λ copied. copied ≡ List prefix.now after.now max) }
+{
+    let prefix = Text::copy(alloc, prefix.as_str())?;
+    match Text::copy(alloc, after.as_str()) {
+        Ok(after) => Ok(Call::List { prefix, after, max }),
+        Err(error) => {
+            drop(prefix);
+            Err(error)
+        }
+    }
+}
+
+fn copied_put(alloc: Global, key: &Key, bytes: &Bytes) -> Result<Call, AllocError>
+    ensures { IfOk result (λ copied. copied ≡ Put key.now bytes.now) }
+{
+    let bytes = bytes.clone()?;
+    match key.copy(alloc) {
+        Ok(key) => Ok(Call::Put { key, bytes }),
+        Err(error) => {
+            drop(bytes);
+            Err(error)
+        }
+    }
+}
+
 impl Call {
     /// An equal call. Bytes are shared and not copied.
     pub fn copy(&self, alloc: Global) -> Result<Self, AllocError>
         ensures { IfOk result (λ copied. copied ≡ self.now) }
     {
         match self {
-            Call::Head { key } => Ok(Call::Head {
-                key: key.copy(alloc)?,
-            }),
-            Call::Probe { key } => Ok(Call::Probe {
-                key: key.copy(alloc)?,
-            }),
-            Call::List { prefix, after, max } => Ok(Call::List {
-                prefix: Text::copy(alloc, prefix.as_str())?,
-                after: Text::copy(alloc, after.as_str())?,
-                max: *max,
-            }),
+            Call::Head { key } => {
+                let key = key.copy(alloc)?;
+                Ok(Call::Head { key })
+            }
+            Call::Probe { key } => {
+                let key = key.copy(alloc)?;
+                Ok(Call::Probe { key })
+            }
+            Call::List { prefix, after, max } => copied_list(alloc, prefix, after, *max),
             Call::Get {
                 key,
                 etag,
                 from,
                 to,
-            } => Ok(Call::Get {
-                key: key.copy(alloc)?,
-                etag: etag.copy(),
-                from: *from,
-                to: *to,
-            }),
-            Call::Delete { key } => Ok(Call::Delete {
-                key: key.copy(alloc)?,
-            }),
-            Call::Put { key, bytes } => Ok(Call::Put {
-                key: key.copy(alloc)?,
-                bytes: bytes.clone()?,
-            }),
-            Call::Create { key } => Ok(Call::Create {
-                key: key.copy(alloc)?,
-            }),
+            } => {
+                let key = key.copy(alloc)?;
+                Ok(Call::Get {
+                    key,
+                    etag: etag.copy(),
+                    from: *from,
+                    to: *to,
+                })
+            }
+            Call::Delete { key } => {
+                let key = key.copy(alloc)?;
+                Ok(Call::Delete { key })
+            }
+            Call::Put { key, bytes } => copied_put(alloc, key, bytes),
+            Call::Create { key } => {
+                let key = key.copy(alloc)?;
+                Ok(Call::Create { key })
+            }
             Call::Part {
                 upload,
                 number,
                 bytes,
-            } => Ok(Call::Part {
-                upload: *upload,
-                number: *number,
-                bytes: bytes.clone()?,
-            }),
+            } => {
+                let bytes = bytes.clone()?;
+                Ok(Call::Part {
+                    upload: *upload,
+                    number: *number,
+                    bytes,
+                })
+            }
             Call::Complete { upload, parts } => Ok(Call::Complete {
                 upload: *upload,
                 parts: *parts,

@@ -39,29 +39,38 @@ fn calls(
 {
     let upload = id_of(&writer.upload);
     match ask {
-        UpAsk::Create => Ok((
-            Call::Create {
-                key: writer.key.copy(alloc)?,
-            },
-            AskedCall::Create {
-                key: writer.key.copy(alloc)?,
-            },
-            Purpose::Create,
-        )),
-        UpAsk::Part { number, from, to } => Ok((
-            Call::Part {
-                upload,
-                number,
-                bytes: writer.upload.part_bytes()?,
-            },
-            AskedCall::Part {
-                upload,
-                number,
-                from,
-                to,
-            },
-            Purpose::Part,
-        )),
+        UpAsk::Create => {
+            let key = writer.key.copy(alloc)?;
+            let told = match writer.key.copy(alloc) {
+                Ok(told) => told,
+                Err(error) => {
+                    drop(key);
+                    return Err(error);
+                }
+            };
+            Ok((
+                Call::Create { key },
+                AskedCall::Create { key: told },
+                Purpose::Create,
+            ))
+        }
+        UpAsk::Part { number, from, to } => {
+            let bytes = writer.upload.part_bytes()?;
+            Ok((
+                Call::Part {
+                    upload,
+                    number,
+                    bytes,
+                },
+                AskedCall::Part {
+                    upload,
+                    number,
+                    from,
+                    to,
+                },
+                Purpose::Part,
+            ))
+        }
         UpAsk::Complete { parts } => Ok((
             Call::Complete { upload, parts },
             AskedCall::Complete { upload, parts },

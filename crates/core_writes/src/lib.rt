@@ -7,6 +7,3 @@ mod drops;
 mod turn;
 
 pub use turn::take_turn;
-
-#[cfg(test)]
-mod tests;

@@ -8,6 +8,3 @@ mod names;
 mod reader;
 
 pub use reader::{DirReader, last_text_of, page_call, prefix_text};
-
-#[cfg(test)]
-mod tests;

@@ -35,10 +35,12 @@ fn show(names: &mut Names, name: Text, listed: Listed) -> Result<(), AllocError>
     ensures { OnOk result (found_in names.new ≡ with_entry name listed (found_in names.old)) }
 {
     if !is_name(name.as_str()) {
+        drop(name);
         return Ok(());
     }
     let name = ListedName::new(name);
     if has_dir(names, &name) {
+        drop(name);
         return Ok(());
     }
     names.insert(name, listed)?;

@@ -41,11 +41,14 @@ impl Model for DirReader {
 pub fn page_call(alloc: Global, prefix: &str, after: &str, max: u32) -> Result<Call, AllocError>
     ensures { IfOk result (λ made. made ≡ call.List prefix.now after.now max) }
 {
-    Ok(Call::List {
-        prefix: Text::copy(alloc, prefix)?,
-        after: Text::copy(alloc, after)?,
-        max,
-    })
+    let prefix = Text::copy(alloc, prefix)?;
+    match Text::copy(alloc, after) {
+        Ok(after) => Ok(Call::List { prefix, after, max }),
+        Err(error) => {
+            drop(prefix);
+            Err(error)
+        }
+    }
 }
 
 /// What the keys below a path begin with.
@@ -56,8 +59,13 @@ pub fn prefix_text(alloc: Global, path: &FilePath) -> Result<Text, AllocError>
         return Ok(Text::new(alloc));
     }
     let mut text = String::from_str(alloc, path.as_key())?;
-    text.push_str("/")?;
-    Ok(Text::from_string(text))
+    match text.push_str("/") {
+        Ok(()) => Ok(Text::from_string(text)),
+        Err(error) => {
+            drop(text);
+            Err(error)
+        }
+    }
 }
 
 // The text by which an item is ordered.

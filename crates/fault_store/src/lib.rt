@@ -5,8 +5,6 @@
 mod change;
 mod faulty;
 mod meddled;
-#[cfg(test)]
-mod tests;
 
 pub use faulty::{Faulty, When};
 pub use meddled::Meddled;

@@ -44,7 +44,8 @@ fn make_all<S: Store>(store: &mut S, mut changes: Vec<Change>)
     ensures { Makes (IsCalled S.position S.history S.faults S.is_alone S.never_fails S.is_honest) (calls_of changes.items) store.old store.new }
 {
     while let Some(change) = changes.pop() {
-        let _ = store.call(change.into_call());
+        let (_, answer) = store.call(change.into_call());
+        drop(answer);
     }
 }
 

@@ -35,9 +35,14 @@ pub fn open(
 {
     match handles.open(actor, name, handle) {
         Ok(()) => Ok(()),
-        Err((OpenFault::Memory, _)) => Err(AllocError),
-        Err((OpenFault::InUse, _)) => unreachable!(),
-        Err((OpenFault::Full, _)) => unreachable!(),
+        Err((fault, refused)) => {
+            drop(refused);
+            match fault {
+                OpenFault::Memory => Err(AllocError),
+                OpenFault::InUse => unreachable!(),
+                OpenFault::Full => unreachable!(),
+            }
+        }
     }
 }
 

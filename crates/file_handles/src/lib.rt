@@ -6,6 +6,3 @@ mod handles;
 mod writer;
 
 pub use handles::{answered, hear, open, wait, write, writer_at};
-
-#[cfg(test)]
-mod tests;

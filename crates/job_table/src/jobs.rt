@@ -87,11 +87,19 @@ impl Jobs {
     {
         let number = match self.count.checked_add(1) {
             Some(number) => number,
-            None => return Err(AllocError),
+            None => {
+                drop(call);
+                drop(purpose);
+                return Err(AllocError);
+            }
         };
         match self.ready.insert(owner, number) {
             Ok(()) => {}
-            Err(_) => return Err(AllocError),
+            Err(error) => {
+                drop(call);
+                drop(purpose);
+                return Err(error);
+            }
         }
         let live = Live {
             owner,
@@ -100,8 +108,9 @@ impl Jobs {
             purpose,
         };
         match self.live.insert(number, live) {
-            Ok(_) => {}
-            Err(_) => {
+            Ok(replaced) => drop(replaced),
+            Err(refused) => {
+                drop(refused);
                 self.ready.remove(owner, number);
                 return Err(AllocError);
             }
@@ -131,9 +140,16 @@ impl Jobs {
         ensures known { journal.new.known ≡ journal.old.known }
     {
         let Some(items) = owed.checked_add(3) else {
+            drop(asking);
             return Err(AllocError);
         };
-        journal.make_room(items)?;
+        match journal.make_room(items) {
+            Ok(()) => {}
+            Err(error) => {
+                drop(asking);
+                return Err(error);
+            }
+        }
         let Asking {
             owner,
             line,
@@ -141,7 +157,13 @@ impl Jobs {
             asked,
             purpose,
         } = asking;
-        let job = self.add(owner, line, call, purpose)?;
+        let job = match self.add(owner, line, call, purpose) {
+            Ok(job) => job,
+            Err(error) => {
+                drop(asked);
+                return Err(error);
+            }
+        };
         journal.ask(Ask {
             job,
             owner,
@@ -187,7 +209,11 @@ impl Jobs {
     {
         journal.drop_job(job);
         let owner = match self.live.remove(&job) {
-            Some(live) => live.owner,
+            Some(live) => {
+                let owner = live.owner;
+                drop(live);
+                owner
+            }
             None => unreachable!(),
         };
         self.ready.remove(owner, job);
@@ -210,11 +236,14 @@ impl Jobs {
             answer,
         });
         match self.live.remove(&job) {
-            Some(live) => Asker {
-                owner: live.owner,
-                line: live.line,
-                purpose: live.purpose,
-            },
+            Some(live) => {
+                drop(live.call);
+                Asker {
+                    owner: live.owner,
+                    line: live.line,
+                    purpose: live.purpose,
+                }
+            }
             None => unreachable!(),
         }
     }
@@ -246,163 +275,5 @@ impl Jobs {
         ensures { IsTrue result ↔ (self.now.held ≡ []) }
     {
         self.live.is_empty()
-    }
-}
-
-#[cfg(test)]
-mod tests {
-    use super::*;
-    use mount_model::Item;
-    use mp_rules::Question;
-    use mp_types::Key;
-    use std::test::Fail;
-
-    // What stands at the key, for the line.
-    fn head(alloc: Global, line: u32, key: &str) -> Result<Asking, Fail> {
-        Ok(Asking {
-            owner: Owner::Line(line),
-            line,
-            call: Call::Head {
-                key: Key::parse(alloc, key)?,
-            },
-            asked: AskedCall::Head {
-                key: Key::parse(alloc, key)?,
-            },
-            purpose: Purpose::Question(Question::Head(Key::parse(alloc, key)?)),
-        })
-    }
-
-    // The end of an upload, for the writer that the line opened.
-    fn complete(line: u32) -> Asking {
-        Asking {
-            owner: Owner::Writer(line),
-            line,
-            call: Call::Complete {
-                upload: 0,
-                parts: 1,
-            },
-            asked: AskedCall::Complete {
-                upload: 0,
-                parts: 1,
-            },
-            purpose: Purpose::Complete,
-        }
-    }
-
-    fn is_head(call: &Call, expected: &str) -> bool {
-        match call {
-            Call::Head { key } => key.as_str() == expected,
-            _ => false,
-        }
-    }
-
-    fn is_asked(purpose: &Purpose, expected: &str) -> bool {
-        match purpose {
-            Purpose::Question(Question::Head(key)) => key.as_str() == expected,
-            _ => false,
-        }
-    }
-
-    // A step has begun.
-    fn begun(alloc: Global) -> Result<Journal, Fail>
-        ensures { IfOk result (λ journal. HasStep journal.steps) }
-    {
-        let mut journal = Journal::new(alloc, &[])?;
-        journal.make_room(1)?;
-        journal.event(Event::Begin { line: 7, time: 0 });
-        Ok(journal)
-    }
-
-    fn is_taken(item: Option<&Item>, expected: u64) -> bool {
-        match item {
-            Some(Item::Event(Event::Take { job, .. })) => *job == expected,
-            _ => false,
-        }
-    }
-
-    fn is_dropped(item: Option<&Item>, expected: u64) -> bool {
-        match item {
-            Some(Item::Drop(job)) => *job == expected,
-            _ => false,
-        }
-    }
-
-    // Drops the first ready job of the writer.
-    fn drop_first(jobs: &mut Jobs, journal: &mut Journal, line: u32) -> Result<(), Fail>
-        requires room { 0 < journal.old.room }
-        requires step { HasStep journal.old.steps }
-        ensures room { OnOk result (journal.new.room + 1 ≡ journal.old.room) }
-        ensures step { OnOk result (HasStep journal.new.steps) }
-    {
-        let job = jobs.ready_of_writer(line).ok_or("a job is ready")?;
-        jobs.drop_job(journal, job);
-        Ok(())
-    }
-
-    #[test]
-    fn a_job_is_ready_until_it_is_taken(rt: HostRuntime) -> Result<(), Fail> {
-        let alloc = rt.alloc();
-        let mut journal = begun(alloc)?;
-        let mut jobs = Jobs::new(alloc);
-        let first = head(alloc, 7, "a")?;
-        assert_eq!(rt; jobs.ask(&mut journal, 0, first)?, 1);
-        let second = head(alloc, 8, "b")?;
-        assert_eq!(rt; jobs.ask(&mut journal, 2, second)?, 2);
-        assert_eq!(rt; jobs.ready(0), Some(1));
-        assert_eq!(rt; jobs.ready(1), Some(2));
-        assert_eq!(rt; jobs.ready(2), None);
-        assert_eq!(rt; jobs.ready_len(), 2);
-        let call = jobs.take(&mut journal, 2, 1, 0);
-        assert!(rt; is_head(&call, "b"));
-        assert!(rt; is_taken(journal.record().items().last(), 2));
-        assert_eq!(rt; jobs.ready(1), None);
-        assert_eq!(rt; jobs.ready_len(), 1);
-        let asker = jobs.done(&mut journal, 2, 0, Brief::Missing);
-        assert_eq!(rt; asker.line, 8);
-        assert_eq!(rt; asker.owner, Owner::Line(8));
-        assert!(rt; is_asked(&asker.purpose, "b"));
-        assert_eq!(rt; jobs.ready(0), Some(1));
-        Ok(())
-    }
-
-    #[test]
-    fn a_job_is_there_until_it_is_done(rt: HostRuntime) -> Result<(), Fail> {
-        let alloc = rt.alloc();
-        let mut journal = begun(alloc)?;
-        let mut jobs = Jobs::new(alloc);
-        assert!(rt; jobs.is_empty());
-        let asking = complete(7);
-        assert_eq!(rt; jobs.ask(&mut journal, 0, asking)?, 1);
-        assert_eq!(rt; jobs.ready_of_writer(7), Some(1));
-        let _ = jobs.take(&mut journal, 1, 1, 0);
-        assert_eq!(rt; jobs.ready(0), None);
-        assert_eq!(rt; jobs.ready_of_writer(7), None);
-        assert!(rt; !jobs.is_empty());
-        let asker = jobs.done(&mut journal, 1, 0, Brief::Stored);
-        assert_eq!(rt; asker.owner, Owner::Writer(7));
-        assert!(rt; matches!(asker.purpose, Purpose::Complete));
-        assert!(rt; jobs.is_empty());
-        Ok(())
-    }
-
-    #[test]
-    fn a_writer_drops_its_own_jobs(rt: HostRuntime) -> Result<(), Fail> {
-        let alloc = rt.alloc();
-        let mut journal = begun(alloc)?;
-        let mut jobs = Jobs::new(alloc);
-        assert_eq!(rt; jobs.ask(&mut journal, 0, complete(3))?, 1);
-        assert_eq!(rt; jobs.ask(&mut journal, 2, complete(5))?, 2);
-        assert_eq!(rt; jobs.ask(&mut journal, 4, complete(3))?, 3);
-        assert_eq!(rt; jobs.ready_of_writer(3), Some(1));
-        assert_eq!(rt; jobs.ready_of_writer(4), None);
-        drop_first(&mut jobs, &mut journal, 3)?;
-        assert!(rt; is_dropped(journal.record().items().last(), 1));
-        assert_eq!(rt; jobs.ready(0), Some(2));
-        assert_eq!(rt; jobs.ready_of_writer(3), Some(3));
-        drop_first(&mut jobs, &mut journal, 3)?;
-        assert_eq!(rt; jobs.ready_of_writer(3), None);
-        assert_eq!(rt; jobs.ready_of_writer(5), Some(2));
-        assert_eq!(rt; jobs.ready_len(), 1);
-        Ok(())
     }
 }

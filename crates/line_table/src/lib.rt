@@ -7,6 +7,3 @@ mod places;
 mod prepare;
 
 pub use lines::Lines;
-
-#[cfg(test)]
-mod tests;

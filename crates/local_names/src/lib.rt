@@ -8,6 +8,3 @@ mod locals;
 mod nodes;
 
 pub use locals::Locals;
-
-#[cfg(test)]
-mod tests;

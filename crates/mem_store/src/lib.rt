@@ -10,6 +10,3 @@ mod store;
 mod uploads;
 
 pub use store::MemStore;
-
-#[cfg(test)]
-mod tests;

@@ -1,4 +1,4 @@
-ghost use Rattle.std.specs.Prelude.{◌≡◌, ◌++◌, ◌∷◌, [], length, drop, IfOk, MatchOption, Some, None, true, false};
+ghost use Rattle.std.specs.Prelude.{◌≡◌, ◌++◌, ◌∷◌, [], length, drop, IfOk, OnOk, MatchOption, Some, None, true, false, string_bytes};
 ghost use Rattle.std.specs.BTreeMap.{IsOrdered};
 ghost use Rattle.std.specs.BTreeMap.Range.{entries_between};
 ghost use Rattle.std.specs.Cmp.Lexicographic.{slice_cmp};
@@ -26,6 +26,14 @@ fn before_slash(text: &str) -> Option<&str>
     }
 }
 
+fn add_texts(text: &mut String, first: &str, second: &str, third: &str) -> Result<(), AllocError>
+    ensures { OnOk result (string_bytes text.new ≡ string_bytes text.old ++ (first.now ++ (second.now ++ third.now))) }
+{
+    text.push_str(first)?;
+    text.push_str(second)?;
+    text.push_str(third)
+}
+
 // The texts joined. There is room for so many bytes at first.
 fn joined(
     alloc: Global,
@@ -37,10 +45,13 @@ fn joined(
     ensures { IfOk result (λ text. text ≡ prefix.now ++ (name.now ++ end.now)) }
 {
     let mut text = String::with_capacity(alloc, room)?;
-    text.push_str(prefix)?;
-    text.push_str(name)?;
-    text.push_str(end)?;
-    Ok(Text::from_string(text))
+    match add_texts(&mut text, prefix, name, end) {
+        Ok(()) => Ok(Text::from_string(text)),
+        Err(error) => {
+            drop(text);
+            Err(error)
+        }
+    }
 }
 
 // The entries behind all keys that begin with the prefix, the name and a `/`: of all bytes, `0` is the next one.
@@ -55,7 +66,9 @@ fn entries_past<'a>(
     ensures ordered { IfOk result (λ _. IsOrdered (slice_cmp nat_cmp) objects.now) }
 {
     let next = joined(alloc, room, prefix, name, "0")?;
-    Ok(objects.range((Bound::Included(&next), Bound::Unbounded)))
+    let entries = objects.range((Bound::Included(&next), Bound::Unbounded));
+    drop(next);
+    Ok(entries)
 }
 
 // The name of the directory below the prefix that the text is in, or is.
@@ -97,8 +110,41 @@ fn object_item(alloc: Global, key: &Text, object: &Object) -> Result<PageItem, A
     })
 }
 
-/// A page of the prefix behind the text. It looks at one entry for each item, and one more: what has a common prefix is
-/// passed at once.
+// Adds the items of a page, and says whether more stand behind them. It looks at one entry for each item, and one more: what
+// has a common prefix is passed at once.
+fn add_items(
+    objects: &BTreeMap<Text, Object>,
+    alloc: Global,
+    prefix: &Text,
+    after: &Text,
+    max: u32,
+    items: &mut Vec<PageItem>,
+) -> Result<bool, AllocError>
+    requires keys { HaveKeyTexts objects.now }
+    requires empty { items.old.items ≡ [] }
+    ensures page { IfOk result (λ more. record { items = items.new.items; more = more } ≡ page_of prefix.now after.now max objects.now.entries) }
+    ensures ordered { IfOk result (λ _. IsOrdered (slice_cmp nat_cmp) objects.now) }
+{
+    let mut entries = entries_behind(objects, alloc, prefix, after)?;
+    while let Some((key, object)) = entries.next() {
+        let Some(rest) = behind(key.as_str(), prefix.as_str()) else {
+            return Ok(false);
+        };
+        if items.len() == max as usize {
+            return Ok(true);
+        }
+        let Some(name) = before_slash(rest) else {
+            items.push(object_item(alloc, key, object)?)?;
+            continue;
+        };
+        let room = key.as_str().len();
+        items.push(PageItem::Prefix(joined(alloc, room, prefix.as_str(), name, "/")?))?;
+        entries = entries_past(objects, alloc, room, prefix.as_str(), name)?;
+    }
+    Ok(false)
+}
+
+/// A page of the prefix behind the text.
 pub fn list_page(
     objects: &BTreeMap<Text, Object>,
     alloc: Global,
@@ -111,30 +157,14 @@ pub fn list_page(
     ensures ordered { IfOk result (λ _. IsOrdered (slice_cmp nat_cmp) objects.now) }
 {
     let mut items = Vec::new(alloc);
-    let mut entries = entries_behind(objects, alloc, prefix, after)?;
-    while let Some((key, object)) = entries.next() {
-        let Some(rest) = behind(key.as_str(), prefix.as_str()) else {
-            return Ok(Page {
-                items: Shared::from_vec(items)?,
-                more: false,
-            });
-        };
-        if items.len() == max as usize {
-            return Ok(Page {
-                items: Shared::from_vec(items)?,
-                more: true,
-            });
+    match add_items(objects, alloc, prefix, after, max, &mut items) {
+        Ok(more) => {
+            let items = Shared::from_vec(items)?;
+            Ok(Page { items, more })
         }
-        let Some(name) = before_slash(rest) else {
-            items.push(object_item(alloc, key, object)?)?;
-            continue;
-        };
-        let room = key.as_str().len();
-        items.push(PageItem::Prefix(joined(alloc, room, prefix.as_str(), name, "/")?))?;
-        entries = entries_past(objects, alloc, room, prefix.as_str(), name)?;
+        Err(error) => {
+            drop(items);
+            Err(error)
+        }
     }
-    Ok(Page {
-        items: Shared::from_vec(items)?,
-        more: false,
-    })
 }

@@ -34,8 +34,13 @@ fn directory_text(alloc: Global, key: &Key) -> Result<Text, AllocError>
     ensures { IfOk result (λ text. text ≡ key.now ++ 47 ∷ []) }
 {
     let mut text = String::from_str(alloc, key.as_str())?;
-    text.push_str("/")?;
-    Ok(Text::from_string(text))
+    match text.push_str("/") {
+        Ok(()) => Ok(Text::from_string(text)),
+        Err(error) => {
+            drop(text);
+            Err(error)
+        }
+    }
 }
 
 // Whether some key begins with the text. One look-up: such keys stand together from the text on.
@@ -63,7 +68,9 @@ pub fn finds_below(
     ensures { IfOk result (λ found. Finds objects.now (key.now ++ 47 ∷ []) found) }
 {
     let start = directory_text(alloc, key)?;
-    Ok(begins_some_key(objects, &start))
+    let found = begins_some_key(objects, &start);
+    drop(start);
+    Ok(found)
 }
 
 /// What ListObjectsV2 of one item answers.
@@ -101,9 +108,34 @@ fn version_etag(alloc: Global, number: u64) -> Result<ETag, AllocError>
     ensures { IfOk result (λ etag. etag ≡ etag_of_version number) }
 {
     let text = format!(in alloc; "v{number}")?;
-    match ETag::parse(text.as_str()) {
+    let parsed = ETag::parse(text.as_str());
+    drop(text);
+    match parsed {
         Ok(etag) => Ok(etag),
         Err(_) => unreachable!(),
+    }
+}
+
+// Puts an object at the key. Want of memory changes nothing.
+fn put_object(
+    objects: &mut BTreeMap<Text, Object>,
+    alloc: Global,
+    key: &Key,
+    object: Object,
+) -> Result<(), AllocError>
+    ensures ok { OnOk result (Updates (slice_cmp nat_cmp) objects.old objects.new key.now (Some object)) }
+    ensures fits { OnOk result (IsKeyText key.now) }
+    ensures err { OnErr result (IsUnchanged objects.old objects.new) }
+{
+    match Text::copy(alloc, key.as_str()) {
+        Ok(text) => {
+            drop(objects.insert(text, object)?);
+            Ok(())
+        }
+        Err(error) => {
+            drop(object);
+            Err(error)
+        }
     }
 }
 
@@ -120,14 +152,25 @@ pub fn put_version(
     ensures fits { OnOk result (IsKeyText key.now) }
     ensures err { OnErr result (IsUnchanged objects.old objects.new) }
 {
-    let etag = version_etag(alloc, number)?;
-    let text = Text::copy(alloc, key.as_str())?;
+    let bytes = bytes.clone()?;
+    let etag = match version_etag(alloc, number) {
+        Ok(etag) => etag,
+        Err(error) => {
+            drop(bytes);
+            return Err(error);
+        }
+    };
     let object = Object {
         etag: etag.copy(),
-        bytes: bytes.clone()?,
+        bytes,
     };
-    objects.insert(text, object)?;
-    Ok(etag)
+    match put_object(objects, alloc, key, object) {
+        Ok(()) => Ok(etag),
+        Err(error) => {
+            drop(etag);
+            Err(error)
+        }
+    }
 }
 
 /// Takes the object at the key away, if one stands there.

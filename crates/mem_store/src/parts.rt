@@ -1,4 +1,4 @@
-ghost use Rattle.std.specs.Prelude.{◌≡◌, ◌^◌, ◌-◌, length, min, IfOk, OnOk, OnErr, option_map, option_copied};
+ghost use Rattle.std.specs.Prelude.{◌≡◌, ◌^◌, ◌-◌, [], length, min, if◌then◌else◌, Some, None, IfOk, OnOk, OnErr, option_map, option_copied};
 ghost use Rattle.std.specs.FinMap as map;
 ghost use Rattle.bucket_model.specs.Bucket.{joined_from};
 ghost use Rattle.mem_store.specs.Uploads.{whole_bytes};
@@ -72,6 +72,20 @@ impl Parts {
         Some(size)
     }
 
+    // Adds the parts from 1 to the count, by number, and says whether each is there.
+    fn add_parts(&self, count: u32, bytes: &mut Vec<u8>) -> Result<bool, AllocError>
+        requires { bytes.old.items ≡ [] }
+        ensures { IfOk result (λ all. (if all then Some bytes.new.items else None) ≡ joined_from self.now 1 count) }
+    {
+        for number in 1..=count {
+            match self.get(number) {
+                Some(part) => bytes.extend_from_slice(part.as_slice())?,
+                None => return Ok(false),
+            }
+        }
+        Ok(true)
+    }
+
     /// The parts joined by number, where their numbers are just those from 1 to the count.
     pub fn joined(&self, alloc: Global, count: u32) -> Result<Option<Bytes>, AllocError>
         ensures { IfOk result (λ made. made ≡ whole_bytes count self.now) }
@@ -83,12 +97,16 @@ impl Parts {
             return Ok(None);
         };
         let mut bytes = Vec::with_capacity(alloc, size)?;
-        for number in 1..=count {
-            match self.get(number) {
-                Some(part) => bytes.extend_from_slice(part.as_slice())?,
-                None => return Ok(None),
+        match self.add_parts(count, &mut bytes) {
+            Ok(true) => Ok(Some(Bytes::from_vec(bytes)?)),
+            Ok(false) => {
+                drop(bytes);
+                Ok(None)
+            }
+            Err(error) => {
+                drop(bytes);
+                Err(error)
             }
         }
-        Ok(Some(Bytes::from_vec(bytes)?))
     }
 }

@@ -69,7 +69,10 @@ impl MemStore {
         let place = self.log.len() as u64;
         match self.log.reserve(1) {
             Ok(()) => {}
-            Err(_) => return (place, Answer::NoMemory),
+            Err(_) => {
+                drop(key);
+                return (place, Answer::NoMemory);
+            }
         }
         let answer = head_answer(&self.objects, &key);
         log_answered(&mut self.log, Call::Head { key }, plain_brief(&answer));
@@ -82,11 +85,17 @@ impl MemStore {
         let place = self.log.len() as u64;
         match self.log.reserve(1) {
             Ok(()) => {}
-            Err(_) => return (place, Answer::NoMemory),
+            Err(_) => {
+                drop(key);
+                return (place, Answer::NoMemory);
+            }
         }
         let found = match finds_below(&self.objects, self.alloc, &key) {
             Ok(found) => found,
-            Err(_) => return (place, Answer::NoMemory),
+            Err(_) => {
+                drop(key);
+                return (place, Answer::NoMemory);
+            }
         };
         let answer = probe_answer(found);
         log_answered(&mut self.log, Call::Probe { key }, plain_brief(&answer));
@@ -101,15 +110,28 @@ impl MemStore {
         let place = self.log.len() as u64;
         match self.log.reserve(1) {
             Ok(()) => {}
-            Err(_) => return (place, Answer::NoMemory),
+            Err(_) => {
+                drop(prefix);
+                drop(after);
+                return (place, Answer::NoMemory);
+            }
         }
         let page = match list_page(&self.objects, self.alloc, &prefix, &after, max) {
             Ok(page) => page,
-            Err(_) => return (place, Answer::NoMemory),
+            Err(_) => {
+                drop(prefix);
+                drop(after);
+                return (place, Answer::NoMemory);
+            }
         };
         let shared = match page.share() {
             Ok(shared) => shared,
-            Err(_) => return (place, Answer::NoMemory),
+            Err(_) => {
+                drop(page);
+                drop(prefix);
+                drop(after);
+                return (place, Answer::NoMemory);
+            }
         };
         let call = Call::List { prefix, after, max };
         log_answered(&mut self.log, call, Brief::Page(shared));
@@ -124,11 +146,19 @@ impl MemStore {
         let place = self.log.len() as u64;
         match self.log.reserve(1) {
             Ok(()) => {}
-            Err(_) => return (place, Answer::NoMemory),
+            Err(_) => {
+                drop(key);
+                drop(etag);
+                return (place, Answer::NoMemory);
+            }
         }
         let answer = match get_answer(&self.objects, &key, &etag, from, to) {
             Ok(answer) => answer,
-            Err(_) => return (place, Answer::NoMemory),
+            Err(_) => {
+                drop(key);
+                drop(etag);
+                return (place, Answer::NoMemory);
+            }
         };
         let call = Call::Get {
             key,
@@ -146,7 +176,10 @@ impl MemStore {
         let place = self.log.len() as u64;
         match self.log.reserve(1) {
             Ok(()) => {}
-            Err(_) => return (place, Answer::NoMemory),
+            Err(_) => {
+                drop(key);
+                return (place, Answer::NoMemory);
+            }
         }
         remove_object(&mut self.objects, &key);
         let answer = Answer::Gone;
@@ -160,12 +193,20 @@ impl MemStore {
         let place = self.log.len() as u64;
         match self.log.reserve(1) {
             Ok(()) => {}
-            Err(_) => return (place, Answer::NoMemory),
+            Err(_) => {
+                drop(key);
+                drop(bytes);
+                return (place, Answer::NoMemory);
+            }
         }
         let number = self.versions + 1;
         let answer = match put_version(&mut self.objects, self.alloc, &key, &bytes, number) {
             Ok(etag) => Answer::Made(etag),
-            Err(_) => return (place, Answer::NoMemory),
+            Err(_) => {
+                drop(key);
+                drop(bytes);
+                return (place, Answer::NoMemory);
+            }
         };
         self.versions = number;
         log_answered(
@@ -182,12 +223,18 @@ impl MemStore {
         let place = self.log.len() as u64;
         match self.log.reserve(1) {
             Ok(()) => {}
-            Err(_) => return (place, Answer::NoMemory),
+            Err(_) => {
+                drop(key);
+                return (place, Answer::NoMemory);
+            }
         }
         let upload = self.created + 1;
         match self.uploads.create(self.alloc, upload, &key) {
             Ok(()) => {}
-            Err(_) => return (place, Answer::NoMemory),
+            Err(_) => {
+                drop(key);
+                return (place, Answer::NoMemory);
+            }
         }
         self.created = upload;
         let answer = Answer::Upload(upload);
@@ -203,11 +250,17 @@ impl MemStore {
         let place = self.log.len() as u64;
         match self.log.reserve(1) {
             Ok(()) => {}
-            Err(_) => return (place, Answer::NoMemory),
+            Err(_) => {
+                drop(bytes);
+                return (place, Answer::NoMemory);
+            }
         }
         let answer = match self.uploads.put_part(upload, number, &bytes) {
             Ok(answer) => answer,
-            Err(_) => return (place, Answer::NoMemory),
+            Err(_) => {
+                drop(bytes);
+                return (place, Answer::NoMemory);
+            }
         };
         let call = Call::Part {
             upload,
@@ -227,7 +280,6 @@ impl MemStore {
             Ok(()) => {}
             Err(_) => return (place, Answer::NoMemory),
         }
-        let call = Call::Complete { upload, parts };
         let number = self.versions + 1;
         match self
             .uploads
@@ -235,10 +287,12 @@ impl MemStore {
         {
             Ok(Some(etag)) => {
                 self.versions = number;
+                let call = Call::Complete { upload, parts };
                 log_answered(&mut self.log, call, Brief::Made(etag.copy()));
                 (place, Answer::Made(etag))
             }
             Ok(None) => {
+                let call = Call::Complete { upload, parts };
                 log_answered(&mut self.log, call, Brief::NoUpload);
                 (place, Answer::NoUpload)
             }

@@ -76,11 +76,12 @@ impl Uploads {
         ensures ok { OnOk result (self.new ≡ map.insert self.old upload (record { key = key.now; parts = map.empty })) }
         ensures err { OnErr result (self.new ≡ self.old) }
     {
+        let key = key.copy(alloc)?;
         let staged = StagedUpload {
-            key: key.copy(alloc)?,
+            key,
             parts: Parts::new(alloc),
         };
-        self.by_id.insert(upload, staged)?;
+        drop(self.by_id.insert(upload, staged)?);
         Ok(())
     }
 
@@ -123,8 +124,10 @@ impl Uploads {
         let Some(bytes) = staged.parts.joined(alloc, parts)? else {
             return Ok(None);
         };
-        let etag = put_version(objects, alloc, &staged.key, &bytes, number)?;
-        self.by_id.remove(&upload);
+        let put = put_version(objects, alloc, &staged.key, &bytes, number);
+        drop(bytes);
+        let etag = put?;
+        drop(self.by_id.remove(&upload));
         Ok(Some(etag))
     }
 

@@ -11,6 +11,3 @@ mod work;
 mod writing;
 
 pub use client::Core;
-
-#[cfg(test)]
-mod tests;

@@ -58,7 +58,13 @@ impl Work {
         ensures err { OnErr result (AsksNot line self.old self.new) }
         ensures shared { shared_in self.new ≡ shared_in self.old }
     {
-        self.keep_answer(line, last)?;
+        match self.keep_answer(line, last) {
+            Ok(()) => {}
+            Err(error) => {
+                drop(asking);
+                return Err(error);
+            }
+        }
         self.jobs.ask(&mut self.record, self.owed, asking)?;
         self.owed += 2;
         Ok(())
@@ -176,24 +182,55 @@ impl Work {
         ensures { Takes (turn_behind line last self.old) (lines_behind line last self.old) bytes self.old self.new }
     {
         match due {
-            Due::Call(asking) => match self.ask_call(line, asking, last) {
-                Ok(()) => {}
-                Err(_) => self.reply_line(line, Reply::Failed(Errno::Enomem)),
-            },
-            Due::NoMemory => self.reply_line(line, Reply::Failed(Errno::Enomem)),
+            Due::Call(asking) => {
+                drop(bytes);
+                match self.ask_call(line, asking, last) {
+                    Ok(()) => {}
+                    Err(_) => self.reply_line(line, Reply::Failed(Errno::Enomem)),
+                }
+            }
+            Due::NoMemory => {
+                drop(last);
+                self.reply_line(line, Reply::Failed(Errno::Enomem));
+            }
             Due::Reply(reply) => {
+                drop(last);
                 self.give_up(line, &reply);
                 self.reply_line(line, reply);
             }
-            Due::MakeDir(key) => self.make_dir(line, key),
-            Due::RemoveDir => self.remove_dir(line),
-            Due::Open(version) => self.open(line, version),
-            Due::Create(key) => self.create(line, key),
-            Due::Listed(entries) => self.reply_line(line, Reply::Listed(entries)),
-            Due::Write => self.write(line),
-            Due::Wait(waiter) => self.wait(line, waiter),
-            Due::Data => self.reply_line(line, Reply::Data(bytes)),
-            Due::Nothing => {}
+            Due::MakeDir(key) => {
+                drop(last);
+                self.make_dir(line, key);
+            }
+            Due::RemoveDir => {
+                drop(last);
+                self.remove_dir(line);
+            }
+            Due::Open(version) => {
+                drop(last);
+                self.open(line, version);
+            }
+            Due::Create(key) => {
+                drop(last);
+                self.create(line, key);
+            }
+            Due::Listed(entries) => {
+                drop(last);
+                self.reply_line(line, Reply::Listed(entries));
+            }
+            Due::Write => {
+                drop(last);
+                self.write(line);
+            }
+            Due::Wait(waiter) => {
+                drop(last);
+                self.wait(line, waiter);
+            }
+            Due::Data => {
+                drop(last);
+                self.reply_line(line, Reply::Data(bytes));
+            }
+            Due::Nothing => drop(last),
         }
     }
 

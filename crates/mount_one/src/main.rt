@@ -7,20 +7,12 @@ ghost use Rattle.std.specs.IoError.{error_kind};
 ghost use Rattle.std.specs.declared.io.ErrorKind.TheVariants.{OutOfMemory};
 ghost use Rattle.mount_one.specs.Statuses.{IsUnread};
 
-#[cfg(test)]
-mod dir_tests;
-#[cfg(test)]
-mod list_tests;
 mod message;
-#[cfg(test)]
-mod path_tests;
 mod reading;
 mod served;
 mod status;
 #[cfg(test)]
 mod tests;
-#[cfg(test)]
-mod write_tests;
 
 use mem_store::MemStore;
 use message::tell;

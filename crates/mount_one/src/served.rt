@@ -72,7 +72,9 @@ fn serve<K: Sink, T: Store, C: Clock>(
     let Ok(core) = drive(alloc, core, store, clock, &Schedule::Oldest) else {
         unreachable!()
     };
-    match print_record(alloc, core.record(), sink) {
+    let printed = print_record(alloc, core.record(), sink);
+    drop(core);
+    match printed {
         Ok(()) => Status::Done,
         Err(PrintFault::Sink) => Status::SinkFault,
         Err(PrintFault::Memory) => Status::NoMemory,

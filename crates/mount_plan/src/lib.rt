@@ -26,6 +26,3 @@ pub use list::unkept_errno;
 pub use next::plan;
 pub use planned::{LinePlan, Plan};
 pub use view::View;
-
-#[cfg(test)]
-mod tests;

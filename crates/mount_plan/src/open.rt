@@ -28,6 +28,7 @@ fn opens_if(live: usize, opened: LinePlan<'_>) -> LinePlan<'_>
     ensures { (next : Next) → MeansOne opened.entry next → MeansOne result (opens_if live next) }
 {
     if live == MAX_HANDLES {
+        drop(opened);
         return failed(Errno::Emfile);
     }
     opened

@@ -95,7 +95,13 @@ fn drive_listed<S: Store, C: Clock>(
             let got = let_go(&mut held, choice);
             core.done(got.job, got.position, got.answer);
         } else if let Some(job) = core.ready(choice - answers) {
-            held.reserve(1)?;
+            match held.reserve(1) {
+                Ok(()) => {}
+                Err(error) => {
+                    drop(core);
+                    return Err(error);
+                }
+            }
             let got = call_for(&mut core, job, store, clock);
             hold(&mut held, got);
         } else if let Some(line) = core.startable_at(choice - answers - ready) {

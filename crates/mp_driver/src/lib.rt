@@ -8,6 +8,3 @@ mod schedule;
 
 pub use driving::drive;
 pub use schedule::Schedule;
-
-#[cfg(test)]
-mod tests;

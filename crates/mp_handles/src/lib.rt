@@ -5,6 +5,3 @@
 mod handles;
 
 pub use handles::{Handles, OpenFault};
-
-#[cfg(test)]
-mod tests;

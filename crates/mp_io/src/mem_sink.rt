@@ -94,18 +94,23 @@ mod tests {
     use super::*;
     use std::test::Fail;
 
+    // The second write fails, and no room is left behind the third.
+    fn takes_three(sink: &mut MemSink) -> bool {
+        sink.held().is_empty()
+            && sink.write(b"abc") == Ok(2)
+            && sink.write(b"cde") == Err(Failed)
+            && sink.held() == b"ab".as_slice()
+            && sink.write(b"cde") == Ok(1)
+            && sink.write(b"de") == Err(Failed)
+            && sink.write(b"") == Ok(0)
+            && sink.held() == b"abc".as_slice()
+    }
+
     #[test]
     fn takes_pieces_of_two_until_no_room_is_left(rt: HostRuntime) -> Result<(), Fail> {
         let fails = vec![in rt.alloc(); 2u64]?;
         let mut sink = MemSink::new(rt.alloc(), 3, 2, fails)?;
-        assert_eq!(rt; sink.held(), b"".as_slice());
-        assert_eq!(rt; sink.write(b"abc"), Ok(2));
-        assert_eq!(rt; sink.write(b"cde"), Err(Failed));
-        assert_eq!(rt; sink.held(), b"ab".as_slice());
-        assert_eq!(rt; sink.write(b"cde"), Ok(1));
-        assert_eq!(rt; sink.write(b"de"), Err(Failed));
-        assert_eq!(rt; sink.write(b""), Ok(0));
-        assert_eq!(rt; sink.held(), b"abc".as_slice());
+        assert!(rt; takes_three(&mut sink));
         Ok(())
     }
 }

@@ -89,21 +89,31 @@ mod tests {
     use super::*;
     use std::test::Fail;
 
+    // Whether a read into the buffer has this answer and leaves the buffer so.
+    fn reads(
+        source: &mut MemSource,
+        buf: &mut [u8],
+        answer: Result<usize, Failed>,
+        filled: &[u8],
+    ) -> bool {
+        source.read(buf) == answer && &*buf == filled
+    }
+
+    fn gives_all(source: &mut MemSource) -> bool {
+        let mut buf = [b'-'; 4];
+        reads(source, &mut buf, Ok(2), b"ab--")
+            && reads(source, &mut buf, Err(Failed), b"ab--")
+            && reads(source, &mut buf[1..2], Ok(1), b"c")
+            && reads(source, &mut buf, Ok(2), b"de--")
+            && reads(source, &mut buf, Ok(0), b"de--")
+    }
+
     #[test]
     fn gives_pieces_of_two_and_fails_at_the_second_read(rt: HostRuntime) -> Result<(), Fail> {
         let bytes = b"abcde".to_vec(rt.alloc())?;
         let fails = vec![in rt.alloc(); 2u64]?;
         let mut source = MemSource::new(bytes, 2, fails);
-        let mut buf = [b'-'; 4];
-        assert_eq!(rt; source.read(&mut buf), Ok(2));
-        assert_eq!(rt; &buf, b"ab--");
-        assert_eq!(rt; source.read(&mut buf), Err(Failed));
-        assert_eq!(rt; &buf, b"ab--");
-        assert_eq!(rt; source.read(&mut buf[1..2]), Ok(1));
-        assert_eq!(rt; &buf, b"ac--");
-        assert_eq!(rt; source.read(&mut buf), Ok(2));
-        assert_eq!(rt; &buf, b"de--");
-        assert_eq!(rt; source.read(&mut buf), Ok(0));
+        assert!(rt; gives_all(&mut source));
         Ok(())
     }
 }

@@ -78,17 +78,15 @@ mod tests {
     fn gives_what_the_reader_gives(rt: HostRuntime) {
         let mut source = StdSource::new(Cursor::new(b"abc".as_slice()));
         let mut buf = [b'-'; 2];
-        assert_eq!(rt; source.read(&mut buf), Ok(2));
-        assert_eq!(rt; &buf, b"ab");
-        assert_eq!(rt; source.read(&mut buf), Ok(1));
-        assert_eq!(rt; &buf, b"cb");
-        assert_eq!(rt; source.read(&mut buf), Ok(0));
+        let first = source.read(&mut buf) == Ok(2) && &buf == b"ab";
+        let second = source.read(&mut buf) == Ok(1) && &buf == b"cb";
+        assert!(rt; first && second && source.read(&mut buf) == Ok(0));
     }
 
     #[test]
     fn counts_a_failed_read(rt: HostRuntime) {
         let mut source = StdSource::new(Broken);
-        assert_eq!(rt; source.read(&mut [0u8; 2]), Err(Failed));
-        assert_eq!(rt; source.faults, 1);
+        let answer = source.read(&mut [0u8; 2]);
+        assert!(rt; answer == Err(Failed) && source.faults == 1);
     }
 }

@@ -54,23 +54,3 @@ pub fn push_escaped(out: &mut Vec<u8>, text: &[u8]) -> Result<(), AllocError>
     }
     push_escaped_bytes(out, text)
 }
-
-#[cfg(test)]
-mod tests {
-    use super::*;
-    use std::test::Fail;
-
-    #[test]
-    fn escapes_all_but_plain_bytes(rt: HostRuntime) -> Result<(), Fail> {
-        let mut out = Vec::new(rt.alloc());
-        push_escaped(&mut out, b"a b%\n\xFF~")?;
-        assert_eq!(rt; out.as_slice(), b"a%20b%25%0A%FF~".as_slice());
-        out.clear();
-        push_escaped(&mut out, b"a/b")?;
-        assert_eq!(rt; out.as_slice(), b"a/b".as_slice());
-        out.clear();
-        push_escaped(&mut out, b"")?;
-        assert_eq!(rt; out.as_slice(), b"%".as_slice());
-        Ok(())
-    }
-}

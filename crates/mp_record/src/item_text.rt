@@ -8,11 +8,19 @@ use mount_model::{Ask, AskedCall, Event, Owner};
 use mp_types::{ETag, Key, Text};
 use std::alloc::AllocError;
 
-/// Adds a number in decimal.
-pub fn push_number(out: &mut Vec<u8>, number: u64) -> Result<(), AllocError>
+// Adds a number in decimal.
+fn push_number(out: &mut Vec<u8>, number: u64) -> Result<(), AllocError>
     ensures { OnOk result (out.new.items ≡ out.old.items ++ decimal number) }
 {
     out.extend_from_slice(Buffer::new().format(number).as_bytes())
+}
+
+/// Adds a word and the number behind it.
+pub fn push_counted(out: &mut Vec<u8>, word: &[u8], number: u64) -> Result<(), AllocError>
+    ensures { OnOk result (out.new.items ≡ out.old.items ++ (word.now ++ decimal number)) }
+{
+    out.extend_from_slice(word)?;
+    push_number(out, number)
 }
 
 fn push_found(out: &mut Vec<u8>, etag: &ETag, size: u64) -> Result<(), AllocError>
@@ -20,8 +28,7 @@ fn push_found(out: &mut Vec<u8>, etag: &ETag, size: u64) -> Result<(), AllocErro
 {
     out.extend_from_slice(b"found ")?;
     out.extend_from_slice(etag.as_bytes())?;
-    out.extend_from_slice(b" ")?;
-    push_number(out, size)
+    push_counted(out, b" ", size)
 }
 
 /// Adds the answer of a PutObject that made an object with this entity tag.
@@ -35,12 +42,10 @@ pub fn push_made(out: &mut Vec<u8>, etag: &ETag) -> Result<(), AllocError>
 fn push_object(out: &mut Vec<u8>, key: &Key, etag: &ETag, size: u64) -> Result<(), AllocError>
     ensures { OnOk result (out.new.items ≡ out.old.items ++ item_text (PageItem.Object key.now etag.now size)) }
 {
-    out.extend_from_slice(b" o:")?;
-    push_number(out, size)?;
+    push_counted(out, b" o:", size)?;
     out.extend_from_slice(b":")?;
     out.extend_from_slice(etag.as_bytes())?;
-    out.extend_from_slice(b":")?;
-    push_key(out, key)
+    push_named(out, b":", key)
 }
 
 fn push_page_item(out: &mut Vec<u8>, item: &PageItem) -> Result<(), AllocError>
@@ -68,8 +73,8 @@ fn push_page(out: &mut Vec<u8>, page: &Page) -> Result<(), AllocError>
     ensures { OnOk result (out.new.items ≡ out.old.items ++ page_text page.now) }
 {
     let items = page.items.as_slice();
-    out.extend_from_slice(if page.more { b"more " } else { b"last " })?;
-    push_number(out, items.len() as u64)?;
+    let start: &[u8] = if page.more { b"more " } else { b"last " };
+    push_counted(out, start, items.len() as u64)?;
     push_page_items(out, items)
 }
 
@@ -85,17 +90,11 @@ fn push_answer(out: &mut Vec<u8>, answer: &Brief) -> Result<(), AllocError>
             out.extend_from_slice(b"page ")?;
             push_page(out, page)
         }
-        Brief::Bytes { length } => {
-            out.extend_from_slice(b"bytes ")?;
-            push_number(out, *length)
-        }
+        Brief::Bytes { length } => push_counted(out, b"bytes ", *length),
         Brief::Changed => out.extend_from_slice(b"changed"),
         Brief::Gone => out.extend_from_slice(b"gone"),
         Brief::Made(etag) => push_made(out, etag),
-        Brief::Upload(upload) => {
-            out.extend_from_slice(b"upload ")?;
-            push_number(out, *upload)
-        }
+        Brief::Upload(upload) => push_counted(out, b"upload ", *upload),
         Brief::Stored => out.extend_from_slice(b"stored"),
         Brief::NoUpload => out.extend_from_slice(b"noupload"),
         Brief::Fault => out.extend_from_slice(b"fault"),
@@ -106,32 +105,25 @@ fn push_answer(out: &mut Vec<u8>, answer: &Brief) -> Result<(), AllocError>
 fn push_begin(out: &mut Vec<u8>, line: u32, time: u64) -> Result<(), AllocError>
     ensures { OnOk result (out.new.items ≡ out.old.items ++ event_text (Event.Begin line time)) }
 {
-    out.extend_from_slice(b"B ")?;
-    push_number(out, u64::from(line))?;
-    out.extend_from_slice(b" ")?;
-    push_number(out, time)?;
+    push_counted(out, b"B ", u64::from(line))?;
+    push_counted(out, b" ", time)?;
     out.extend_from_slice(b"\n")
 }
 
 fn push_take(out: &mut Vec<u8>, job: u64, time: u64, from: u64) -> Result<(), AllocError>
     ensures { OnOk result (out.new.items ≡ out.old.items ++ event_text (Event.Take job time from)) }
 {
-    out.extend_from_slice(b"T ")?;
-    push_number(out, job)?;
-    out.extend_from_slice(b" ")?;
-    push_number(out, time)?;
-    out.extend_from_slice(b" ")?;
-    push_number(out, from)?;
+    push_counted(out, b"T ", job)?;
+    push_counted(out, b" ", time)?;
+    push_counted(out, b" ", from)?;
     out.extend_from_slice(b"\n")
 }
 
 fn push_done(out: &mut Vec<u8>, job: u64, position: u64, answer: &Brief) -> Result<(), AllocError>
     ensures { OnOk result (out.new.items ≡ out.old.items ++ event_text (Event.Done job position answer.now)) }
 {
-    out.extend_from_slice(b"D ")?;
-    push_number(out, job)?;
-    out.extend_from_slice(b" ")?;
-    push_number(out, position)?;
+    push_counted(out, b"D ", job)?;
+    push_counted(out, b" ", position)?;
     out.extend_from_slice(b" ")?;
     push_answer(out, answer)?;
     out.extend_from_slice(b"\n")
@@ -156,8 +148,7 @@ pub fn push_event(out: &mut Vec<u8>, event: &Event) -> Result<(), AllocError>
 pub fn push_drop(out: &mut Vec<u8>, job: u64) -> Result<(), AllocError>
     ensures { OnOk result (out.new.items ≡ out.old.items ++ drop_text job) }
 {
-    out.extend_from_slice(b"X ")?;
-    push_number(out, job)?;
+    push_counted(out, b"X ", job)?;
     out.extend_from_slice(b"\n")
 }
 
@@ -165,18 +156,9 @@ fn push_owner(out: &mut Vec<u8>, owner: Owner) -> Result<(), AllocError>
     ensures { OnOk result (out.new.items ≡ out.old.items ++ owner_text owner) }
 {
     match owner {
-        Owner::Line(number) => {
-            out.extend_from_slice(b"L")?;
-            push_number(out, u64::from(number))
-        }
-        Owner::Stream(number) => {
-            out.extend_from_slice(b"S")?;
-            push_number(out, u64::from(number))
-        }
-        Owner::Writer(number) => {
-            out.extend_from_slice(b"W")?;
-            push_number(out, u64::from(number))
-        }
+        Owner::Line(number) => push_counted(out, b"L", u64::from(number)),
+        Owner::Stream(number) => push_counted(out, b"S", u64::from(number)),
+        Owner::Writer(number) => push_counted(out, b"W", u64::from(number)),
     }
 }
 
@@ -187,18 +169,12 @@ pub fn push_text(out: &mut Vec<u8>, text: &Text) -> Result<(), AllocError>
     push_escaped(out, text.as_str().as_bytes())
 }
 
-fn push_key(out: &mut Vec<u8>, key: &Key) -> Result<(), AllocError>
-    ensures { OnOk result (out.new.items ≡ out.old.items ++ escaped key.now) }
+// Adds a word and the key behind it.
+fn push_named(out: &mut Vec<u8>, word: &[u8], key: &Key) -> Result<(), AllocError>
+    ensures { OnOk result (out.new.items ≡ out.old.items ++ (word.now ++ escaped key.now)) }
 {
+    out.extend_from_slice(word)?;
     push_escaped(out, key.as_str().as_bytes())
-}
-
-fn push_range(out: &mut Vec<u8>, from: u64, to: u64) -> Result<(), AllocError>
-    ensures { OnOk result (out.new.items ≡ out.old.items ++ (decimal from ++ (codes " " ++ decimal to))) }
-{
-    push_number(out, from)?;
-    out.extend_from_slice(b" ")?;
-    push_number(out, to)
 }
 
 fn push_list(out: &mut Vec<u8>, prefix: &Text, after: &Text, max: u32) -> Result<(), AllocError>
@@ -208,19 +184,17 @@ fn push_list(out: &mut Vec<u8>, prefix: &Text, after: &Text, max: u32) -> Result
     push_text(out, prefix)?;
     out.extend_from_slice(b" ")?;
     push_text(out, after)?;
-    out.extend_from_slice(b" ")?;
-    push_number(out, u64::from(max))
+    push_counted(out, b" ", u64::from(max))
 }
 
 fn push_get(out: &mut Vec<u8>, key: &Key, etag: &ETag, from: u64, to: u64) -> Result<(), AllocError>
     ensures { OnOk result (out.new.items ≡ out.old.items ++ call_text (AskedCall.Get key.now etag.now from to)) }
 {
-    out.extend_from_slice(b"get ")?;
-    push_key(out, key)?;
+    push_named(out, b"get ", key)?;
     out.extend_from_slice(b" ")?;
     out.extend_from_slice(etag.as_bytes())?;
-    out.extend_from_slice(b" ")?;
-    push_range(out, from, to)
+    push_counted(out, b" ", from)?;
+    push_counted(out, b" ", to)
 }
 
 fn push_part(
@@ -232,35 +206,32 @@ fn push_part(
 ) -> Result<(), AllocError>
     ensures { OnOk result (out.new.items ≡ out.old.items ++ call_text (AskedCall.Part upload number from to)) }
 {
-    out.extend_from_slice(b"part ")?;
-    push_number(out, upload)?;
-    out.extend_from_slice(b" ")?;
-    push_number(out, u64::from(number))?;
-    out.extend_from_slice(b" ")?;
-    push_range(out, from, to)
+    push_counted(out, b"part ", upload)?;
+    push_counted(out, b" ", u64::from(number))?;
+    push_counted(out, b" ", from)?;
+    push_counted(out, b" ", to)
 }
 
 fn push_complete(out: &mut Vec<u8>, upload: u64, parts: u32) -> Result<(), AllocError>
     ensures { OnOk result (out.new.items ≡ out.old.items ++ call_text (AskedCall.Complete upload parts)) }
 {
-    out.extend_from_slice(b"complete ")?;
-    push_number(out, upload)?;
-    out.extend_from_slice(b" ")?;
-    push_number(out, u64::from(parts))
+    push_counted(out, b"complete ", upload)?;
+    push_counted(out, b" ", u64::from(parts))
+}
+
+fn push_put(out: &mut Vec<u8>, key: &Key, length: u64) -> Result<(), AllocError>
+    ensures { OnOk result (out.new.items ≡ out.old.items ++ call_text (AskedCall.Put key.now length)) }
+{
+    push_named(out, b"put ", key)?;
+    push_counted(out, b" ", length)
 }
 
 fn push_call(out: &mut Vec<u8>, call: &AskedCall) -> Result<(), AllocError>
     ensures { OnOk result (out.new.items ≡ out.old.items ++ call_text call.now) }
 {
     match call {
-        AskedCall::Head { key } => {
-            out.extend_from_slice(b"head ")?;
-            push_key(out, key)
-        }
-        AskedCall::Probe { key } => {
-            out.extend_from_slice(b"probe ")?;
-            push_key(out, key)
-        }
+        AskedCall::Head { key } => push_named(out, b"head ", key),
+        AskedCall::Probe { key } => push_named(out, b"probe ", key),
         AskedCall::List { prefix, after, max } => push_list(out, prefix, after, *max),
         AskedCall::Get {
             key,
@@ -268,20 +239,9 @@ fn push_call(out: &mut Vec<u8>, call: &AskedCall) -> Result<(), AllocError>
             from,
             to,
         } => push_get(out, key, etag, *from, *to),
-        AskedCall::Delete { key } => {
-            out.extend_from_slice(b"delete ")?;
-            push_key(out, key)
-        }
-        AskedCall::Put { key, length } => {
-            out.extend_from_slice(b"put ")?;
-            push_key(out, key)?;
-            out.extend_from_slice(b" ")?;
-            push_number(out, *length)
-        }
-        AskedCall::Create { key } => {
-            out.extend_from_slice(b"create ")?;
-            push_key(out, key)
-        }
+        AskedCall::Delete { key } => push_named(out, b"delete ", key),
+        AskedCall::Put { key, length } => push_put(out, key, *length),
+        AskedCall::Create { key } => push_named(out, b"create ", key),
         AskedCall::Part {
             upload,
             number,
@@ -289,10 +249,7 @@ fn push_call(out: &mut Vec<u8>, call: &AskedCall) -> Result<(), AllocError>
             to,
         } => push_part(out, *upload, *number, *from, *to),
         AskedCall::Complete { upload, parts } => push_complete(out, *upload, *parts),
-        AskedCall::Abort { upload } => {
-            out.extend_from_slice(b"abort ")?;
-            push_number(out, *upload)
-        }
+        AskedCall::Abort { upload } => push_counted(out, b"abort ", *upload),
     }
 }
 
@@ -300,8 +257,7 @@ fn push_call(out: &mut Vec<u8>, call: &AskedCall) -> Result<(), AllocError>
 pub fn push_ask(out: &mut Vec<u8>, ask: &Ask) -> Result<(), AllocError>
     ensures { OnOk result (out.new.items ≡ out.old.items ++ ask_text ask.now) }
 {
-    out.extend_from_slice(b"A ")?;
-    push_number(out, ask.job)?;
+    push_counted(out, b"A ", ask.job)?;
     out.extend_from_slice(b" ")?;
     push_owner(out, ask.owner)?;
     out.extend_from_slice(b" ")?;

@@ -18,22 +18,3 @@ pub fn write_all<K: Sink>(sink: &mut K, bytes: &[u8]) -> Result<(), Failed>
     }
     Ok(())
 }
-
-#[cfg(test)]
-mod tests {
-    use super::*;
-    use mp_io::MemSink;
-    use std::test::Fail;
-
-    #[test]
-    fn writes_all_in_pieces_up_to_a_failure(rt: HostRuntime) -> Result<(), Fail> {
-        let mut sink = MemSink::new(rt.alloc(), 10, 2, Vec::new(rt.alloc()))?;
-        assert_eq!(rt; write_all(&mut sink, b"abcde"), Ok(()));
-        assert_eq!(rt; sink.held(), b"abcde".as_slice());
-        let fails = vec![in rt.alloc(); 2u64]?;
-        let mut sink = MemSink::new(rt.alloc(), 10, 2, fails)?;
-        assert_eq!(rt; write_all(&mut sink, b"abcde"), Err(Failed));
-        assert_eq!(rt; sink.held(), b"ab".as_slice());
-        Ok(())
-    }
-}

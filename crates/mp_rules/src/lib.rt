@@ -12,6 +12,3 @@ pub use entry::{DirEntry, Entry, Kind, Local, entry_of};
 pub use facts::{Fact, Known, OwnFacts, Question, QuestionRef};
 pub use keys::{below, key_of};
 pub use names::{name_order, names_are_ordered};
-
-#[cfg(test)]
-mod tests;

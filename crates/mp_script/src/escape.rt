@@ -86,8 +86,13 @@ fn unescaped(alloc: Global, text: &[u8]) -> Result<Vec<u8>, Fault>
     }
     let mut bytes = Vec::with_capacity(alloc, text.len())?;
     bytes.extend_from_slice(front)?;
-    push_unescaped(&mut bytes, rest)?;
-    Ok(bytes)
+    match push_unescaped(&mut bytes, rest) {
+        Ok(()) => Ok(bytes),
+        Err(fault) => {
+            drop(bytes);
+            Err(fault)
+        }
+    }
 }
 
 /// What an escaped word stands for.
@@ -106,6 +111,9 @@ pub fn text(alloc: Global, word: &[u8]) -> Result<String, Fault>
 {
     match String::from_utf8(escaped_bytes(alloc, word)?) {
         Ok(text) => Ok(text),
-        Err(_) => Err(Fault::Cause(ScriptCause::Utf8)),
+        Err(error) => {
+            drop(error);
+            Err(Fault::Cause(ScriptCause::Utf8))
+        }
     }
 }

@@ -1,7 +1,8 @@
 ghost use Rattle.std.specs.Prelude.{◌≡◌};
 ghost use Rattle.mp_script.specs.declared.fault.Fault.TheVariants as fault;
+ghost use Rattle.mp_script.specs.declared.fault.ScriptError.TheVariants as script_error;
 
-use mount_model::{ScriptCause, What};
+use mount_model::{Line, ScriptCause, What};
 use std::alloc::{AllocError, AllocFailed};
 
 /// Why bytes were not read as a script.
@@ -15,8 +16,17 @@ pub enum ScriptError {
     Memory,
 }
 
+impl From<AllocFailed<Line>> for ScriptError {
+    ghost from_gives = { λ _ error. error ≡ script_error.Memory };
+
+    fn from(refused: AllocFailed<Line>) -> ScriptError {
+        drop(refused);
+        ScriptError::Memory
+    }
+}
+
 /// Why a line was not read.
-#[derive(Clone, Copy, Debug, PartialEq, Eq)]
+#[derive(Clone, Copy)]
 pub enum Fault {
     Cause(ScriptCause),
     Memory,

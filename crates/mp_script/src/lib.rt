@@ -12,6 +12,3 @@ mod word;
 
 pub use fault::ScriptError;
 pub use script::{MAX_BYTES, read_script};
-
-#[cfg(test)]
-mod tests;

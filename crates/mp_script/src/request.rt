@@ -13,7 +13,7 @@ use mp_types::Text;
 use std::alloc::Global;
 
 /// How a file is opened.
-#[derive(Clone, Copy, Debug, PartialEq, Eq)]
+#[derive(Clone, Copy)]
 pub enum Access {
     Read,
     Write,
@@ -21,7 +21,7 @@ pub enum Access {
 }
 
 /// The verbs of the script.
-#[derive(Clone, Copy, Debug, PartialEq, Eq)]
+#[derive(Clone, Copy)]
 pub enum Verb {
     Await,
     Put,
@@ -38,14 +38,21 @@ pub enum Verb {
     Unlink,
 }
 
+// Whether a word is the one that is spelled so.
+fn is_word(word: &[u8], spelled: &[u8]) -> bool
+    ensures { result ≡ script.is_word word.now spelled.now }
+{
+    word == spelled
+}
+
 // The verb of a change that the others make.
 fn change_verb(word: &[u8]) -> Result<Verb, ScriptCause>
     ensures { (words : List (List ℕ)) → MatchResult result (λ verb. change_of word.now words ≡ verb_request verb words) (λ cause. change_of word.now words ≡ Err cause) }
 {
-    if word == b"put".as_slice() {
+    if is_word(word, b"put") {
         return Ok(Verb::Put);
     }
-    if word == b"delete".as_slice() {
+    if is_word(word, b"delete") {
         return Ok(Verb::Delete);
     }
     Err(ScriptCause::Verb)
@@ -55,40 +62,40 @@ fn change_verb(word: &[u8]) -> Result<Verb, ScriptCause>
 fn process_verb(word: &[u8]) -> Result<Verb, ScriptCause>
     ensures { (words : List (List ℕ)) → MatchResult result (λ verb. asked_by_process word.now words ≡ verb_request verb words) (λ cause. asked_by_process word.now words ≡ Err cause) }
 {
-    if word == b"stat".as_slice() {
+    if is_word(word, b"stat") {
         return Ok(Verb::Stat);
     }
-    if word == b"list".as_slice() {
+    if is_word(word, b"list") {
         return Ok(Verb::List);
     }
-    if word == b"openr".as_slice() {
+    if is_word(word, b"openr") {
         return Ok(Verb::Open(Access::Read));
     }
-    if word == b"openw".as_slice() {
+    if is_word(word, b"openw") {
         return Ok(Verb::Open(Access::Write));
     }
-    if word == b"opent".as_slice() {
+    if is_word(word, b"opent") {
         return Ok(Verb::Open(Access::Truncate));
     }
-    if word == b"read".as_slice() {
+    if is_word(word, b"read") {
         return Ok(Verb::Read);
     }
-    if word == b"write".as_slice() {
+    if is_word(word, b"write") {
         return Ok(Verb::Write);
     }
-    if word == b"fsync".as_slice() {
+    if is_word(word, b"fsync") {
         return Ok(Verb::Sync);
     }
-    if word == b"close".as_slice() {
+    if is_word(word, b"close") {
         return Ok(Verb::Close);
     }
-    if word == b"mkdir".as_slice() {
+    if is_word(word, b"mkdir") {
         return Ok(Verb::MakeDir);
     }
-    if word == b"rmdir".as_slice() {
+    if is_word(word, b"rmdir") {
         return Ok(Verb::RemoveDir);
     }
-    if word == b"unlink".as_slice() {
+    if is_word(word, b"unlink") {
         return Ok(Verb::Unlink);
     }
     Err(ScriptCause::Verb)
@@ -98,7 +105,7 @@ fn process_verb(word: &[u8]) -> Result<Verb, ScriptCause>
 fn verb_of(actor: u16, word: &[u8]) -> Result<Verb, ScriptCause>
     ensures { (words : List (List ℕ)) → MatchResult result (λ verb. request_of actor word.now words ≡ verb_request verb words) (λ cause. request_of actor word.now words ≡ Err cause) }
 {
-    if word == b"await".as_slice() {
+    if is_word(word, b"await") {
         return Ok(Verb::Await);
     }
     if actor == 0 {
@@ -114,8 +121,13 @@ fn put(alloc: Global, text: &[u8]) -> Result<Request, Fault>
         None => Err(Fault::Cause(ScriptCause::Words)),
         Some(parted) => {
             let key = word::key(alloc, parted.before)?;
-            let content = content(alloc, parted.after)?;
-            Ok(Request::Put { key, content })
+            match content(alloc, parted.after) {
+                Ok(content) => Ok(Request::Put { key, content }),
+                Err(fault) => {
+                    drop(key);
+                    Err(fault)
+                }
+            }
         }
     }
 }
@@ -234,30 +246,37 @@ fn request(alloc: Global, verb: Verb, text: &[u8]) -> Result<Request, Fault>
         Verb::Await => Err(Fault::Cause(ScriptCause::Words)),
         Verb::Put => put(alloc, text),
         Verb::Delete => delete(alloc, text),
-        Verb::Stat => Ok(Request::Stat {
-            path: only_path(alloc, text)?,
-        }),
-        Verb::List => Ok(Request::List {
-            path: only_path(alloc, text)?,
-        }),
+        Verb::Stat => match only_path(alloc, text) {
+            Ok(path) => Ok(Request::Stat { path }),
+            Err(fault) => Err(fault),
+        },
+        Verb::List => match only_path(alloc, text) {
+            Ok(path) => Ok(Request::List { path }),
+            Err(fault) => Err(fault),
+        },
         Verb::Open(access) => open_file(alloc, access, text),
         Verb::Read => Ok(read(text)?),
         Verb::Write => write(alloc, text),
-        Verb::Sync => Ok(Request::Sync {
-            handle: only_handle(text)?,
-        }),
-        Verb::Close => Ok(Request::Close {
-            handle: only_handle(text)?,
-        }),
-        Verb::MakeDir => Ok(Request::MakeDir {
-            path: only_path(alloc, text)?,
-        }),
-        Verb::RemoveDir => Ok(Request::RemoveDir {
-            path: only_path(alloc, text)?,
-        }),
-        Verb::Unlink => Ok(Request::Unlink {
-            path: only_path(alloc, text)?,
-        }),
+        Verb::Sync => {
+            let handle = only_handle(text)?;
+            Ok(Request::Sync { handle })
+        }
+        Verb::Close => {
+            let handle = only_handle(text)?;
+            Ok(Request::Close { handle })
+        }
+        Verb::MakeDir => match only_path(alloc, text) {
+            Ok(path) => Ok(Request::MakeDir { path }),
+            Err(fault) => Err(fault),
+        },
+        Verb::RemoveDir => match only_path(alloc, text) {
+            Ok(path) => Ok(Request::RemoveDir { path }),
+            Err(fault) => Err(fault),
+        },
+        Verb::Unlink => match only_path(alloc, text) {
+            Ok(path) => Ok(Request::Unlink { path }),
+            Err(fault) => Err(fault),
+        },
     }
 }
 

@@ -118,23 +118,17 @@ fn add_line(
     if text.is_empty() || text[0] == b'#' {
         return Ok(());
     }
-    let (actor, request) = match asked(alloc, text) {
-        Ok(asked) => asked,
-        Err(Fault::Cause(cause)) => {
-            return Err(ScriptError::Bad {
-                line: number,
-                cause,
-            });
-        }
-        Err(Fault::Memory) => return Err(ScriptError::Memory),
-    };
-    match lines.push(Line {
-        number,
-        actor,
-        request,
-    }) {
-        Ok(()) => Ok(()),
-        Err(_) => Err(ScriptError::Memory),
+    match asked(alloc, text) {
+        Ok((actor, request)) => Ok(lines.push(Line {
+            number,
+            actor,
+            request,
+        })?),
+        Err(Fault::Cause(cause)) => Err(ScriptError::Bad {
+            line: number,
+            cause,
+        }),
+        Err(Fault::Memory) => Err(ScriptError::Memory),
     }
 }
 
@@ -147,7 +141,13 @@ fn read_lines(alloc: Global, bytes: &[u8]) -> Result<Vec<Line>, ScriptError>
     let mut number = 1u32;
     while !rest.is_empty() {
         let parted = first_line(rest);
-        add_line(alloc, &mut lines, number, parted.before)?;
+        match add_line(alloc, &mut lines, number, parted.before) {
+            Ok(()) => {}
+            Err(error) => {
+                drop(lines);
+                return Err(error);
+            }
+        }
         number += 1;
         rest = parted.after;
     }
@@ -170,9 +170,11 @@ pub fn read_script(alloc: Global, bytes: &[u8]) -> Result<Script, ScriptError>
     let lines = read_lines(alloc, bytes)?;
     let moved = Moved::together(lines.as_slice());
     if moved.read > MAX_READ {
+        drop(lines);
         return Err(ScriptError::TooLong(What::Reads));
     }
     if moved.given > MAX_GIVEN {
+        drop(lines);
         return Err(ScriptError::TooLong(What::Data));
     }
     Ok(Items::from_vec(lines))

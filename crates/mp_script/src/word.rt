@@ -94,7 +94,9 @@ pub fn key(alloc: Global, word: &[u8]) -> Result<Key, Fault>
     ensures { Gives (λ key. key) result (key_of word.now) }
 {
     let text = escape::text(alloc, word)?;
-    match Key::parse(alloc, text.as_str()) {
+    let parsed = Key::parse(alloc, text.as_str());
+    drop(text);
+    match parsed {
         Ok(key) => Ok(key),
         Err(KeyFault::Memory) => Err(Fault::Memory),
         Err(KeyFault::Empty | KeyFault::TooLong) => Err(Fault::Cause(ScriptCause::Key)),

@@ -27,6 +27,3 @@ pub use text::{Text, behind};
 
 /// Any bytes, seen by contracts as their list.
 pub type Octets = Items<u8>;
-
-#[cfg(test)]
-mod tests;

@@ -9,6 +9,3 @@ mod waiting;
 
 pub use upload_rules::UpFault;
 pub use uploader::{MAX_PARTS, Uploader};
-
-#[cfg(test)]
-mod tests;

@@ -12,6 +12,3 @@ mod walk;
 pub use decision::Decision;
 pub use theorems::entries_go_by_what_hides;
 pub use walk::decide;
-
-#[cfg(test)]
-mod tests;

@@ -10,5 +10,5 @@ returns-in-Ok c =
     let same : string_bytes c.in-Ok.text ≡ c.in_ok-escaped_bytes.field-0.items = ap (λ (v : Vec ℕ). v.items) c.in-Ok.ensures.ok in
     text_is c.args.word.now (string_bytes c.in-Ok.text) (c.in_ok-escaped_bytes.ensures ∙ ap (λ (t : List ℕ). Ok t) (sym same)) (IsUtf8-string_bytes c.in-Ok.text)
 
-pub returns : goal.returns
-returns c = no_text c.args.word.now c.in_ok-escaped_bytes.field-0.items c.in_ok-escaped_bytes.ensures (λ is. absurd (let no_such = c.in-Err.ensures.succeeds is in cc))
+pub returns-in-Err : goal.returns-in-Err
+returns-in-Err c = no_text c.args.word.now c.in_ok-escaped_bytes.field-0.items c.in_ok-escaped_bytes.ensures (λ is. absurd (let no_such = c.in-Err.ensures.succeeds is in cc))

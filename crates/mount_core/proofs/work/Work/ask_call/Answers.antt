@@ -17,12 +17,12 @@ invariant_of-self-2 c = record {
 
 pub returns-in_err-ask-clause-err : goal.returns-in_err-ask-clause-err
 returns-in_err-ask-clause-err c =
-    let refused = err_from_is_err_and c.from_residual-in_err-ask.result c.from_residual-in_err-ask.ensures.1 in
+    let refused = err_from_is_err_and c.from_residual.result c.from_residual.ensures.1 in
     rw refused.1
     (record {
       steps = c.in_err-ask.ensures.unasked ∙ ap (λ (w : Journaled). w.steps) c.keep_answer.ensures.record_stays;
-      begun = begun_on c.args.line c.args.last c.args.self.now.lines c.keep_answer.new.self.lines c.in_ok-keep_answer.ensures.ok c.requires.begun;
-      lines = replied_alike c.args.line c.args.last c.args.self.now.lines c.keep_answer.new.self.lines c.in_ok-keep_answer.ensures.ok;
+      begun = begun_on c.args.line c.args.last c.args.self.now.lines c.keep_answer.new.self.lines c.in-Ok.ensures.ok c.requires.begun;
+      lines = replied_alike c.args.line c.args.last c.args.self.now.lines c.keep_answer.new.self.lines c.in-Ok.ensures.ok;
       jobs = c.in_err-ask.ensures.err ∙ c.keep_answer.ensures.jobs_stay;
       time = c.keep_answer.ensures.time_stays;
     })

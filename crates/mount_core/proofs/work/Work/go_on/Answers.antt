@@ -12,8 +12,8 @@ returns-in-Ok c =
     let due = subst (λ d. MayGoOn c.args.line d c.args.last c.args.bytes c.args.self.now) c.in-Call.is c.requires.turn in
     takes_asking c.args.line c.in-Call.asking.owner c.args.last c.in-Call.asking.call c.args.bytes c.args.self.now c.ask_call.new.self c.requires.begun due.means.0 due.means.1 c.in-Ok.ensures.ok c.ask_call.ensures.shared
 
-pub returns-in-Call : goal.returns-in-Call
-returns-in-Call c =
+pub returns-in-Err : goal.returns-in-Err
+returns-in-Err c =
     let w = c.args.self.now in
     let due = subst (λ d. MayGoOn c.args.line d c.args.last c.args.bytes w) c.in-Call.is c.requires.turn in
     let next = next_behind c.args.line c.args.last w in
@@ -136,8 +136,8 @@ returns-in-Data c =
     (λ state step line who number asks drops. (c.args.bytes, due.gives count due.means.1, says_turn c.args.line (reply.Data c.args.bytes) step line number asks drops))
     (ap (λ (t : Shared). t.options) same) (λ step. same) refl
 
-pub returns : goal.returns
-returns c =
+pub returns-in-Nothing : goal.returns-in-Nothing
+returns-in-Nothing c =
     let w = c.args.self.now in
     let due = subst (λ d. MayGoOn c.args.line d c.args.last c.args.bytes w) c.in-Nothing.is c.requires.turn in
     takes_waiting c.args.line c.args.last c.args.bytes w c.requires.begun c.requires.step (waits_idle c.args.line c.args.last w due.means due.not_idle) due.means
