@@ -31,14 +31,22 @@ fn tell_each(printed: &mut Vec<u8>, bytes: &[u8]) -> Option<()> {
     Some(())
 }
 
+// Tells the ends of more bytes than are told whole.
+fn tell_ends(printed: &mut Vec<u8>, bytes: &[u8]) -> Option<()> {
+    let (front, _) = bytes.split_at_checked(32)?;
+    let (_, back) = bytes.split_at_checked(bytes.len().checked_sub(16)?)?;
+    tell_each(printed, front)?;
+    tell_word(printed, "..")?;
+    tell_each(printed, back)
+}
+
 /// Tells bytes behind a word, with their length.
 pub fn tell_bytes(printed: &mut Vec<u8>, word: &str, bytes: &[u8]) -> Option<()> {
     tell_counted(printed, word, bytes.len() as u64)?;
     tell_word(printed, ":")?;
     if bytes.len() <= WHOLE {
-        return tell_each(printed, bytes);
+        tell_each(printed, bytes)
+    } else {
+        tell_ends(printed, bytes)
     }
-    tell_each(printed, &bytes[..32])?;
-    tell_word(printed, "..")?;
-    tell_each(printed, &bytes[bytes.len() - 16..])
 }
