@@ -6,6 +6,8 @@ use Rattle.bucket_model.specs.declared.call.Call.TheVariants as call
 use Rattle.bucket_model.specs.declared.call.Call.TheVariants.{Head, Probe, Get, Delete, Put, Create, Part, Complete, Abort}
 use Rattle.bucket_model.specs.declared.answer.Answer.{Answer}
 use Rattle.bucket_model.specs.declared.answer.Answer.TheVariants as answer
+use Rattle.bucket_model.specs.declared.answer.AnswerKind.{AnswerKind}
+use Rattle.bucket_model.specs.declared.answer.AnswerKind.TheVariants as kind
 use Rattle.bucket_model.specs.declared.answer.Brief.{Brief}
 use Rattle.bucket_model.specs.declared.history.Logged.{Logged}
 use Rattle.bucket_model.specs.declared.history.Name.{Name}
@@ -29,6 +31,23 @@ brief_of answer.Stored = Stored
 brief_of answer.NoUpload = NoUpload
 brief_of answer.Fault = Fault
 brief_of answer.NoMemory = NoMemory
+
+-- which variant an answer is, without what it brings
+abbrev pub kind_of : Brief → AnswerKind
+kind_of (Found etag size) = kind.Found
+kind_of Missing = kind.Missing
+kind_of Yes = kind.Yes
+kind_of No = kind.No
+kind_of (Page page) = kind.Page
+kind_of (Bytes count) = kind.Bytes
+kind_of Changed = kind.Changed
+kind_of Gone = kind.Gone
+kind_of (Made etag) = kind.Made
+kind_of (Upload upload) = kind.Upload
+kind_of Stored = kind.Stored
+kind_of NoUpload = kind.NoUpload
+kind_of Fault = kind.Fault
+kind_of NoMemory = kind.NoMemory
 
 abbrev pub brings_page : Answer → Bool
 brings_page (answer.Page page) = true

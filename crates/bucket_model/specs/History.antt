@@ -1,5 +1,5 @@
 -- A bucket's history, and what makes it legal.
-use Rattle.std.specs.Prelude.{◌≡◌, ◌≢◌, ℕ, List, [], ◌∷◌, ◌++◌, fold, Contains, Bool, true, false, Option, Some, None, option_to_list}
+use Rattle.std.specs.Prelude.{◌≡◌, ◌≢◌, ℕ, List, [], ◌∷◌, ◌++◌, fold, Contains, Bool, true, false, Option, Some, None, option_to_list, slice_get}
 use Rattle.bucket_model.specs.declared.call.Call.{Call}
 use Rattle.bucket_model.specs.declared.call.Call.TheVariants.{Delete, Put, Create, Complete}
 use Rattle.bucket_model.specs.declared.answer.Brief.{Brief}
@@ -88,3 +88,10 @@ abbrev pub IsChange : Call → Type 0
 IsChange (Delete key) = Unit {0}
 IsChange (Put key bytes) = Unit {0}
 IsChange other = ⊥
+
+-- this call with this answer stands at the position
+pub record HasEntry (log : List Logged) (position : ℕ) (called : Call) (answer : Brief) : Type 0 where
+  pub logged : Logged
+  pub stands : slice_get log position ≡ Some logged
+  pub call : logged.entry.call ≡ called
+  pub brief : logged.entry.answer ≡ answer

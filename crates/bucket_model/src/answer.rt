@@ -58,6 +58,25 @@ pub enum Brief {
     NoMemory,
 }
 
+/// Which variant an answer is, without what it brings.
+#[derive(Clone, Copy, Debug, PartialEq, Eq)]
+pub enum AnswerKind {
+    Found,
+    Missing,
+    Yes,
+    No,
+    Page,
+    Bytes,
+    Changed,
+    Gone,
+    Made,
+    Upload,
+    Stored,
+    NoUpload,
+    Fault,
+    NoMemory,
+}
+
 impl Brief {
     /// The name that the answer tells of, if it tells of one. Takes no memory.
     pub fn made(&self) -> Option<Name>

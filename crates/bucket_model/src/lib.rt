@@ -7,7 +7,7 @@ mod call;
 mod history;
 mod page;
 
-pub use answer::{Answer, Brief};
+pub use answer::{Answer, AnswerKind, Brief};
 pub use call::Call;
 pub use history::{HEntry, Logged, Name, Object, add_entry};
 pub use page::{Page, PageItem, pages_are_of_the_keys};

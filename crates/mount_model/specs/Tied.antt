@@ -2,24 +2,16 @@
 use Rattle.std.specs.Prelude.{◌≡◌, ℕ, ◌<◌, ◌≤◌, List, length, slice_get, true, Some}
 use Rattle.mp_types.specs.declared.options.Opts.{Opts}
 use Rattle.bucket_model.specs.declared.call.Call.{Call}
-use Rattle.bucket_model.specs.declared.answer.Brief.{Brief}
 use Rattle.bucket_model.specs.declared.history.Logged.{Logged}
 use Rattle.bucket_model.specs.Along.{Along}
 use Rattle.bucket_model.specs.Answers.{is_counted}
-use Rattle.bucket_model.specs.History.{IsChange}
+use Rattle.bucket_model.specs.History.{HasEntry, IsChange}
 use Rattle.mount_model.specs.declared.request.Line.{Line}
 use Rattle.mount_model.specs.declared.event.Event.{Event}
 use Rattle.mount_model.specs.declared.event.Event.TheVariants.{Begin, Take, Done}
 use Rattle.mount_model.specs.Step.{Step}
 use Rattle.mount_model.specs.State.{ClientState, Job, opening, after, state_after, job_at}
 use Rattle.mount_model.specs.Run.{is_among}
-
--- this call with this answer stands at the position
-pub record HasEntry (log : List Logged) (position : ℕ) (called : Call) (answer : Brief) : Type 0 where
-  pub logged : Logged
-  pub stands : slice_get log position ≡ Some logged
-  pub call : logged.entry.call ≡ called
-  pub brief : logged.entry.answer ≡ answer
 
 -- each answer but want of memory stands in the history, at its position, as the answer to the job's whole call
 abbrev pub TiesEvent : ℕ → List Logged → ClientState → Event → Type 0

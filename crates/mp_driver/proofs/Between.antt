@@ -8,13 +8,13 @@ use Rattle.bucket_model.specs.declared.answer.Brief.{Brief}
 use Rattle.bucket_model.specs.declared.history.Logged.{Logged}
 use Rattle.bucket_model.specs.Along.{Along}
 use Rattle.bucket_model.specs.Answers.{brief_of, fits, is_counted}
-use Rattle.bucket_model.specs.History.{History, IsChange}
+use Rattle.bucket_model.specs.History.{HasEntry, History, IsChange}
 use Rattle.store_trait.specs.Told.{BringsSlice, KeepsVersions}
 use Rattle.mount_model.specs.declared.request.Line.{Line}
 use Rattle.mount_model.specs.Step.{Step}
 use Rattle.mount_model.specs.State.{ClientState, Job, JobPhase, Ready, Out, Gone, opening, after, job_at}
 use Rattle.mount_model.specs.Run.{AreRising, IsRunSoFar, is_among}
-use Rattle.mount_model.specs.Tied.{HasEntry, TiesEvent}
+use Rattle.mount_model.specs.Tied.{TiesEvent}
 use Rattle.mount_core.specs.Core.{CoreState, state_of}
 use Rattle.mp_driver.specs.declared.held.HeldAnswer.{HeldAnswer}
 use Rattle.mp_driver.specs.Drive.{ReadsOver}

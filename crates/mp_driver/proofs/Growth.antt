@@ -8,13 +8,12 @@ use Rattle.bucket_model.specs.declared.answer.Brief.{Brief}
 use Rattle.bucket_model.specs.declared.history.Logged.{Logged}
 use Rattle.bucket_model.specs.Answers.{brief_of, is_counted}
 use Rattle.bucket_model.specs.Bucket.{ObjectVersion, IsSlice}
-use Rattle.bucket_model.specs.History.{History}
+use Rattle.bucket_model.specs.History.{HasEntry, History}
 use Rattle.store_trait.specs.Told.{AddsFor, BringsSlice, Tells}
 use Rattle.mount_model.specs.declared.request.Line.{Line}
 use Rattle.mount_model.specs.Step.{Step}
 use Rattle.mount_model.specs.State.{Job, Out, job_at}
 use Rattle.mount_model.specs.Reads.{AreReads}
-use Rattle.mount_model.specs.Tied.{HasEntry}
 use Rattle.mp_driver.specs.declared.held.HeldAnswer.{HeldAnswer}
 use Rattle.mp_driver.specs.Drive.{ReadsOver}
 use Rattle.mp_driver.proofs.Between.{IsMore, Grows, HasToldEntry, IsOwed}

@@ -9,7 +9,7 @@ use Rattle.mp_types.specs.HandleName.{HandleName}
 use Rattle.bucket_model.specs.declared.call.Call.TheVariants as call
 use Rattle.bucket_model.specs.declared.answer.Brief.TheVariants as answer
 use Rattle.bucket_model.specs.declared.history.Logged.{Logged}
-use Rattle.bucket_model.specs.History.{IsLegalEntry, IsLegalHistory}
+use Rattle.bucket_model.specs.History.{HasEntry, IsLegalEntry, IsLegalHistory}
 use Rattle.upload_history.specs.Entries.{IsCreatedAt}
 use Rattle.upload_history.proofs.Along.{legal_at}
 use Rattle.upload_history.proofs.Laws.{upload_told}
@@ -27,7 +27,6 @@ use Rattle.mount_model.specs.Handles.{Writer}
 use Rattle.mount_model.specs.Conversation.{Next, Asks, Replies, Makes, Removes, Opens, Creates, Lists, Gives, Writes, Ends, Waits}
 use Rattle.mount_model.specs.State.{ClientState, Job, job_at, line_at, change_line, lines_at, with_answered, with_replies, view_of, handle_name, TurnOf, turn_at, after}
 use Rattle.mount_model.specs.Run.{is_among, IsLegalStep}
-use Rattle.mount_model.specs.Tied.{HasEntry}
 use Rattle.mount_model.specs.Written.{accepted_in, accepted_from}
 use Rattle.run_laws.specs.Alive.{IsAlive}
 use Rattle.run_laws.specs.Counts.{is_complete, calls_made}

@@ -4,7 +4,7 @@ use Rattle.std.proofs.lemmas.Bool.{cases_eq}
 use Rattle.std.specs.List.{AllByRecursion}
 use Rattle.bucket_model.specs.declared.answer.Brief.{Brief}
 use Rattle.bucket_model.specs.declared.history.Logged.{Logged}
-use Rattle.mount_model.specs.Tied.{HasEntry}
+use Rattle.bucket_model.specs.History.{HasEntry}
 use Rattle.mount_model.specs.State.{Job, JobPhase, Ready, Out, Gone, job_at, in_phase, change_job}
 use Rattle.mount_model.specs.Run.{is_among}
 use Rattle.write_laws.specs.Accounted.{Place, StandsAt, IsBehind, IsAnswered, AreAccounted}

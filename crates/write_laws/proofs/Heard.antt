@@ -8,6 +8,7 @@ use Rattle.bucket_model.specs.declared.answer.Brief.{Brief}
 use Rattle.bucket_model.specs.declared.answer.Brief.TheVariants as answer
 use Rattle.bucket_model.specs.declared.history.Logged.{Logged}
 use Rattle.bucket_model.specs.Answers.{is_counted}
+use Rattle.bucket_model.specs.History.{HasEntry}
 use Rattle.upload_rules.specs.declared.upload.UpState.{UpState}
 use Rattle.upload_rules.specs.declared.upload.UpState.TheVariants.{Open, Finished, Done, Failed}
 use Rattle.upload_rules.specs.declared.upload.Created.{Created}
@@ -15,7 +16,6 @@ use Rattle.upload_rules.specs.declared.upload.Created.TheVariants.{GivenUp}
 use Rattle.upload_rules.specs.Upload.{Upload, with_failure, with_id, with_stored, completed, given_up}
 use Rattle.upload_rules.proofs.Due.{upload}
 use Rattle.mount_model.specs.declared.event.Owner.TheVariants as owner
-use Rattle.mount_model.specs.Tied.{HasEntry}
 use Rattle.mount_model.specs.Conversation.{errno_of}
 use Rattle.mount_model.specs.Writers.{has_failed, hears_answer}
 use Rattle.mount_model.specs.State.{Job, Out, Gone, job_at, change_job}

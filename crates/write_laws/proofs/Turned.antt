@@ -6,6 +6,7 @@ use Rattle.bucket_model.specs.declared.call.Call.{Call}
 use Rattle.bucket_model.specs.declared.call.Call.TheVariants as call
 use Rattle.bucket_model.specs.declared.answer.Brief.TheVariants as answer
 use Rattle.bucket_model.specs.declared.history.Logged.{Logged}
+use Rattle.bucket_model.specs.History.{HasEntry}
 use Rattle.upload_rules.specs.declared.upload.UpState.{UpState}
 use Rattle.upload_rules.specs.declared.upload.UpState.TheVariants.{Open, Finished, Done, Failed}
 use Rattle.upload_rules.specs.declared.upload.Created.{Created}
@@ -18,7 +19,6 @@ use Rattle.upload_rules.proofs.Due.{upload, part-left, IsCompleteDue, due-is}
 use Rattle.mount_model.specs.declared.event.Owner.TheVariants as owner
 use Rattle.mount_model.specs.declared.event.Ask.{Ask}
 use Rattle.mount_model.specs.declared.event.Answered.{Answered}
-use Rattle.mount_model.specs.Tied.{HasEntry}
 use Rattle.mount_model.specs.Step.{Step}
 use Rattle.mount_model.specs.Handles.{Writer}
 use Rattle.mount_model.specs.Writers.{Asking, id_in, asking_for, first_asks, ask_times, has_failed, settled, back_times}

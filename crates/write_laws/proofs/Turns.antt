@@ -6,7 +6,7 @@ use Rattle.bucket_model.specs.declared.call.Call.TheVariants as call
 use Rattle.bucket_model.specs.declared.answer.Brief.{Brief}
 use Rattle.bucket_model.specs.declared.history.Logged.{Logged}
 use Rattle.bucket_model.specs.Answers.{is_counted}
-use Rattle.bucket_model.specs.History.{IsLegalHistory}
+use Rattle.bucket_model.specs.History.{HasEntry, IsLegalHistory}
 use Rattle.upload_rules.specs.declared.upload.UpState.TheVariants.{Open}
 use Rattle.upload_rules.specs.Upload.{Upload, with_bytes}
 use Rattle.mount_model.specs.declared.handle.Handle.TheVariants.{Writing}
@@ -25,7 +25,7 @@ use Rattle.mount_model.specs.Writers.{hears_answer}
 use Rattle.mount_model.specs.Conversation.{Next, Replies, Writes, Ends, with_upload, waited_for, ended}
 use Rattle.mount_model.specs.State.{ClientState, Job, Out, Gone, job_at, jobs_at, view_of, handle_name, Turn, TurnOf, TurnOfWriter, turn_at, behind_step, jobs_of_writer, positions_after, change_job, reply_in}
 use Rattle.mount_model.specs.Run.{is_among, MayDone, MayCome, TakesTurnOfWriter, IsLegalStep}
-use Rattle.mount_model.specs.Tied.{HasEntry, TiesEvent}
+use Rattle.mount_model.specs.Tied.{TiesEvent}
 use Rattle.mount_model.specs.Written.{accepted_in, content_in}
 use Rattle.run_laws.specs.Alive.{IsAlive}
 use Rattle.run_laws.proofs.Jobs.{Rises-jobs, ready-found}

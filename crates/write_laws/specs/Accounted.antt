@@ -8,6 +8,7 @@ use Rattle.bucket_model.specs.declared.call.Call.TheVariants as call
 use Rattle.bucket_model.specs.declared.answer.Brief.TheVariants as answer
 use Rattle.bucket_model.specs.declared.history.Logged.{Logged}
 use Rattle.bucket_model.specs.Answers.{is_counted}
+use Rattle.bucket_model.specs.History.{HasEntry}
 use Rattle.upload_history.specs.Entries.{IsCreatedAt, IsNumbered}
 use Rattle.upload_rules.specs.declared.upload.UpState.TheVariants as state
 use Rattle.upload_rules.specs.declared.upload.Created.{Created}
@@ -24,7 +25,6 @@ use Rattle.mount_model.specs.Handles.{Writer}
 use Rattle.mount_model.specs.Writers.{has_failed}
 use Rattle.mount_model.specs.State.{ClientState, Job, JobPhase, Out, Gone, job_at}
 use Rattle.mount_model.specs.Run.{is_among}
-use Rattle.mount_model.specs.Tied.{HasEntry}
 use Rattle.mount_model.specs.Written.{accepted}
 use Rattle.run_laws.specs.Writers.{HasReply}
 
