@@ -64,6 +64,13 @@ made_by (Made etag) = Some (name.Version etag)
 made_by (Upload upload) = Some (name.Upload upload)
 made_by other = None
 
+-- the upload that a call names
+abbrev pub upload_in : Call → Option ℕ
+upload_in (Part upload number bytes) = Some upload
+upload_in (Complete upload parts) = Some upload
+upload_in (Abort upload) = Some upload
+upload_in other = None
+
 -- the entry of a call that took effect: its caller was told the first answer, and the second tells what was made
 abbrev pub entry_after : Call → Brief → Brief → Logged
 entry_after asked told said = record { entry = record { call = asked; answer = told; took = true }; made = made_by said }

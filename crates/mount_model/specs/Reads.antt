@@ -4,6 +4,7 @@ use Rattle.std.specs.List.{AllByRecursion}
 use Rattle.mp_types.specs.declared.options.Opts.{Opts}
 use Rattle.bucket_model.specs.Along.{Along}
 use Rattle.bucket_model.specs.Bucket.{ObjectVersion, slice_at}
+use Rattle.bucket_model.specs.History.{History}
 use Rattle.mount_model.specs.declared.handle.Handle.TheVariants.{Reading}
 use Rattle.mount_model.specs.declared.handle.Version.{Version}
 use Rattle.mount_model.specs.declared.request.Request.{Request}
@@ -56,3 +57,8 @@ GivesOnly bytes answered = by_reply answered.reply
 -- each read in these steps gives bytes of the version that its handle opened
 abbrev pub AreReads : List ObjectVersion → Opts → List Line → List Step → Type 0
 AreReads versions options script steps = Along (λ state (step : Step). AllByRecursion (IsReadReply versions state) step.replies) after (opening options script) steps
+
+-- as far as the store tells its versions
+abbrev pub ReadsOver : Option History → Opts → List Line → List Step → Type 0
+ReadsOver None options script steps = Unit {0}
+ReadsOver (Some told) options script steps = AreReads told.versions options script steps

@@ -1,5 +1,5 @@
 -- Which objects writers make: each whole, of all the bytes that its writer accepted.
-use Rattle.std.specs.Prelude.{◌≡◌, ℕ, ◌<◌, ◌≤◌, List, [], ◌∷◌, ◌++◌, take, Contains, slice_get, Bool, true, false, ◌&&◌, ◌==◌, if◌then◌else◌, Option, Some}
+use Rattle.std.specs.Prelude.{◌≡◌, ℕ, ◌<◌, ◌≤◌, List, [], ◌∷◌, ◌++◌, take, Contains, slice_get, Bool, true, false, ◌&&◌, ◌==◌, if◌then◌else◌, Option, Some, None}
 use Rattle.std.specs.List.{AllByRecursion}
 use Rattle.mp_types.specs.declared.options.Opts.{Opts}
 use Rattle.mp_types.specs.Content.{bytes_of}
@@ -7,7 +7,7 @@ use Rattle.bucket_model.specs.declared.call.Call.{Call}
 use Rattle.bucket_model.specs.declared.call.Call.TheVariants as call
 use Rattle.bucket_model.specs.declared.history.Logged.{Logged}
 use Rattle.bucket_model.specs.Bucket.{version_made}
-use Rattle.bucket_model.specs.History.{replay}
+use Rattle.bucket_model.specs.History.{History, replay}
 use Rattle.mount_model.specs.declared.handle.Handle.TheVariants.{Writing}
 use Rattle.mount_model.specs.declared.request.Request.{Request}
 use Rattle.mount_model.specs.declared.request.Request.TheVariants as request
@@ -19,6 +19,7 @@ use Rattle.mount_model.specs.declared.event.Event.TheVariants.{Take}
 use Rattle.mount_model.specs.Step.{Step}
 use Rattle.mount_model.specs.Conversation.{Writes}
 use Rattle.mount_model.specs.Handles.{Writer, handle_of}
+use Rattle.mount_model.specs.Run.{is_among}
 use Rattle.mount_model.specs.State.{ClientState, Turn, TurnOf, opening, after, state_after, turn_at, reply_in}
 
 abbrev pub content_in : Request → List ℕ
@@ -82,10 +83,17 @@ pub record IsThere (options : Opts) (script : List Line) (log : List Logged) (be
   pub made : IsMadeAt log position writer.key (accepted writer.line options script (before ++ step ∷ []))
   pub behind : AllByRecursion (λ (s : Step). IsTakenBehind position s.event) later
 
--- What was written appears whole or not at all, also where the answer was lost, and is there once close or fsync has succeeded.
-pub record AreWritten (options : Opts) (script : List Line) (start : ℕ) (log : List Logged) (steps : List Step) : Type 0 where
-  pub whole : (position : ℕ) (key bytes : List ℕ) → start ≤ position → IsMadeAt log position key bytes → IsOfWriter options script steps key bytes
+-- What was written appears whole or not at all, also where the answer was lost, and is there once close or fsync has
+-- succeeded. An object that a call of the record made is its writer's, whatever others write beside it.
+pub record AreWritten (options : Opts) (script : List Line) (log : List Logged) (steps : List Step) : Type 0 where
+  pub whole : (position : ℕ) (key bytes : List ℕ) → is_among position (state_after options script steps).positions ≡ true
+      → IsMadeAt log position key bytes → IsOfWriter options script steps key bytes
   pub there : (before later : List Step) (step : Step) (line : Line) (writer : Writer) → steps ≡ before ++ step ∷ later
       → Contains script line → reply_in line.number step.replies ≡ Some reply.Success
       → handle_of line (state_after options script before).shared.handles ≡ Some (Writing writer)
       → IsThere options script log before later step writer
+
+-- as far as the store tells its history
+abbrev pub WrittenOver : Option History → Opts → List Line → List Step → Type 0
+WrittenOver None options script steps = Unit {0}
+WrittenOver (Some told) options script steps = AreWritten options script told.log steps

@@ -10,7 +10,10 @@ use Rattle.mount_model.specs.Run.{IsRun}
 use Rattle.mount_model.specs.RecordText.{record_text}
 use Rattle.mount_model.specs.ScriptText.{Refusal, Bad, script_of, max_script_bytes}
 use Rattle.mount_model.specs.ScriptText as text
-use Rattle.mp_driver.specs.Drive.{IsTiedTo, ReadsOver, WrittenOver, HasFewFaults}
+use Rattle.mount_model.specs.Reads.{ReadsOver}
+use Rattle.mount_model.specs.Tied.{IsTiedTo}
+use Rattle.mount_model.specs.Written.{WrittenOver}
+use Rattle.mp_driver.specs.Drive.{HasFewFaults}
 use Rattle.mp_record.specs.Appends.{Appends, AppendsFront}
 use Rattle.mount_one.specs.Reading.{IsSpent}
 use Rattle.mount_one.specs.declared.status.Status.{Status}
@@ -48,7 +51,7 @@ pub record Serves (input : Option (List ℕ)) (start : ℕ) (is_alone is_honest 
   pub run : IsRun default_options script steps
   pub tied : IsTiedTo history default_options script start is_alone steps
   pub reads : ReadsOver history default_options script steps
-  pub written : is_honest → WrittenOver history default_options script start steps
+  pub written : is_honest → WrittenOver history default_options script steps
   pub faults : HasFewFaults faults_before faults_after steps
 
 -- What the sink holds is what it held, and then the text of the record of such a run.

@@ -17,7 +17,7 @@ use Rattle.mount_model.specs.Run.{AreRising, IsRunSoFar, is_among}
 use Rattle.mount_model.specs.Tied.{TiesEvent}
 use Rattle.mount_core.specs.Core.{CoreState, state_of}
 use Rattle.mp_driver.specs.declared.held.HeldAnswer.{HeldAnswer}
-use Rattle.mp_driver.specs.Drive.{ReadsOver}
+use Rattle.mount_model.specs.Reads.{ReadsOver}
 use Rattle.mp_driver.specs.Held.{answer_for}
 
 -- a history with more entries, and with no version lost

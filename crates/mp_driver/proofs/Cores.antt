@@ -16,7 +16,8 @@ use Rattle.run_laws.proofs.Quiet.{no_reply_lost}
 use Rattle.mount_core.specs.Core.{CoreState, state_of, Advances}
 use Rattle.mp_driver.specs.declared.held.HeldAnswer.{HeldAnswer}
 use Rattle.mp_driver.specs.Calls.{Calls}
-use Rattle.mp_driver.specs.Drive.{HasRisenBy, IsDriven, IsTiedTo, faults_in}
+use Rattle.mount_model.specs.Tied.{IsTiedTo}
+use Rattle.mp_driver.specs.Drive.{HasRisenBy, IsDriven, faults_in}
 use Rattle.mp_driver.specs.Held.{answer_for, IsWith}
 use Rattle.mp_driver.proofs.ByJob.{answer_for-job}
 use Rattle.mp_driver.proofs.Between.{AreServed, IsBetween, IsAtTurn, IsOwed}

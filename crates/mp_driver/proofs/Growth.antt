@@ -15,7 +15,7 @@ use Rattle.mount_model.specs.Step.{Step}
 use Rattle.mount_model.specs.State.{Job, Out, job_at}
 use Rattle.mount_model.specs.Reads.{AreReads}
 use Rattle.mp_driver.specs.declared.held.HeldAnswer.{HeldAnswer}
-use Rattle.mp_driver.specs.Drive.{ReadsOver}
+use Rattle.mount_model.specs.Reads.{ReadsOver}
 use Rattle.mp_driver.proofs.Between.{IsMore, Grows, HasToldEntry, IsOwed}
 use Rattle.mp_driver.proofs.Positions.{slice_get-more}
 use Rattle.mp_driver.proofs.Versions.{AreReads-more, IsSlice-more}

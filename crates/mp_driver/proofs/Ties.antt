@@ -17,10 +17,9 @@ use Rattle.mount_model.specs.declared.event.Event.TheVariants.{Begin, Take, Done
 use Rattle.mount_model.specs.Step.{Step}
 use Rattle.mount_model.specs.State.{ClientState, Job, opening, after, state_after, job_at, positions_after}
 use Rattle.mount_model.specs.Run.{is_among}
-use Rattle.mount_model.specs.Tied.{TiesEvent}
+use Rattle.mount_model.specs.Tied.{IsTiedTo, TiesEvent}
 use Rattle.write_laws.proofs.Accepted.{among-last}
 use Rattle.mp_driver.specs.declared.held.HeldAnswer.{HeldAnswer}
-use Rattle.mp_driver.specs.Drive.{IsTiedTo}
 use Rattle.mp_driver.specs.Held.{answer_for, IsWith}
 use Rattle.mp_driver.proofs.Between.{HasToldEntry, IsPlaced, IsTiedSoFar, IsTiedToSoFar}
 use Rattle.mp_driver.proofs.Growth.{HasEntry-more}
@@ -196,7 +195,9 @@ tied-start (Some told) options script start is_alone length_is = rw (length_is t
 pub tied-end : (told : Option History) (options : Opts) (script : List Line) (start : ℕ) (is_alone : Type 0) (steps : List Step) → IsTiedToSoFar told options script start is_alone [] steps (state_after options script steps).positions → IsTiedTo told options script start is_alone steps
 tied-end None options script start is_alone steps tied = tt
 tied-end (Some told) options script start is_alone steps tied = record {
-  each = tied.each;
-  others = λ p logged above stands fixed. placed-none (state_after options script steps).positions p (tied.others p logged above stands fixed);
-  alone = λ is p above below. placed-none (state_after options script steps).positions p (tied.alone is p above below);
+  calls = tied.each;
+  changes = record {
+    others = λ p logged above stands fixed. placed-none (state_after options script steps).positions p (tied.others p logged above stands fixed);
+    alone = λ is p above below. placed-none (state_after options script steps).positions p (tied.alone is p above below);
+  };
 }

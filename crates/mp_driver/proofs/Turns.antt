@@ -20,7 +20,7 @@ use Rattle.run_laws.proofs.Slices.{run_begun_reads, run_done_reads, run_taken_re
 use Rattle.run_laws.proofs.Alive.{alive}
 use Rattle.run_laws.proofs.Dropped.{drop_one}
 use Rattle.mp_driver.specs.declared.held.HeldAnswer.{HeldAnswer}
-use Rattle.mp_driver.specs.Drive.{ReadsOver}
+use Rattle.mount_model.specs.Reads.{ReadsOver}
 use Rattle.mp_driver.specs.Held.{IsWith}
 use Rattle.mp_driver.proofs.Positions.{not_among-below, below-more}
 use Rattle.mp_driver.proofs.ByJob.{answer_for-job}

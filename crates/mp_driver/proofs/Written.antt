@@ -6,9 +6,10 @@ use Rattle.bucket_model.specs.History.{History, IsLegalHistory}
 use Rattle.mount_model.specs.declared.request.Line.{Line}
 use Rattle.mount_model.specs.Step.{Step}
 use Rattle.mount_model.specs.Run.{AreRising, IsRunSoFar}
-use Rattle.write_laws.proofs.Written.{are-written}
-use Rattle.mp_driver.specs.Drive.{IsTiedTo, WrittenOver}
+use Rattle.mount_model.specs.Tied.{IsTiedTo}
+use Rattle.mount_model.specs.Written.{WrittenOver}
+use Rattle.write_laws.proofs.Written.{are-written, has-its-uploads}
 
-pub written-over : (told : Option History) (options : Opts) (script : List Line) (start : ℕ) (is_alone : Type 0) (steps : List Step) → AreWithin options → AreRising 0 script → IsRunSoFar options script steps → IsTiedTo told options script start is_alone steps → ((history : History) → told ≡ Some history → IsLegalHistory history.log) → WrittenOver told options script start steps
+pub written-over : (told : Option History) (options : Opts) (script : List Line) (start : ℕ) (is_alone : Type 0) (steps : List Step) → AreWithin options → AreRising 0 script → IsRunSoFar options script steps → IsTiedTo told options script start is_alone steps → ((history : History) → told ≡ Some history → IsLegalHistory history.log) → WrittenOver told options script steps
 written-over None options script start is_alone steps within rising run tied legal = tt
-written-over (Some told) options script start is_alone steps within rising run tied legal = are-written options script start is_alone told.log steps within rising run tied (legal told refl)
+written-over (Some told) options script start is_alone steps within rising run tied legal = are-written options script start told.log steps within rising run tied.calls (has-its-uploads start is_alone told.log _ tied.changes) (legal told refl)

@@ -1,4 +1,4 @@
--- What a driven run is tied to, which bytes its reads give, and how many faults it has.
+-- What is promised of a driven run, and how many faults it has.
 use Rattle.std.specs.Prelude.{◌≡◌, ℕ, ◌+◌, ◌-◌, ◌^◌, ◌≤◌, Bool, true, false, ◌⊎◌, List, Option, Some, None}
 use Rattle.mp_types.specs.declared.options.Opts.{Opts}
 use Rattle.std.specs.List.{count_by}
@@ -9,27 +9,11 @@ use Rattle.mount_model.specs.declared.event.Event.{Event}
 use Rattle.mount_model.specs.declared.event.Event.TheVariants.{Done}
 use Rattle.mount_model.specs.declared.request.Line.{Line}
 use Rattle.mount_model.specs.Step.{Step}
-use Rattle.mount_model.specs.Reads.{AreReads}
+use Rattle.mount_model.specs.Reads.{ReadsOver}
 use Rattle.mount_model.specs.Run.{IsRun}
-use Rattle.mount_model.specs.Tied.{IsTied}
-use Rattle.mount_model.specs.Written.{AreWritten}
+use Rattle.mount_model.specs.Tied.{IsTiedTo}
+use Rattle.mount_model.specs.Written.{WrittenOver}
 use Rattle.mount_core.specs.Core.{CoreState}
-
--- the record is tied to the history, as far as the store tells it
-abbrev pub IsTiedTo : Option History → Opts → List Line → ℕ → Type 0 → List Step → Type 0
-IsTiedTo None options script start is_alone steps = Unit {0}
-IsTiedTo (Some told) options script start is_alone steps = IsTied options script start is_alone told.log steps
-
--- each read gives bytes of the version that its handle opened, as far as the store tells its versions
-abbrev pub ReadsOver : Option History → Opts → List Line → List Step → Type 0
-ReadsOver None options script steps = Unit {0}
-ReadsOver (Some told) options script steps = AreReads told.versions options script steps
-
--- what was written appears whole or not at all, and is there once its close or fsync has succeeded, as far as the store
--- tells its history
-abbrev pub WrittenOver : Option History → Opts → List Line → ℕ → List Step → Type 0
-WrittenOver None options script start steps = Unit {0}
-WrittenOver (Some told) options script start steps = AreWritten options script start told.log steps
 
 -- whether the answer is a fault
 abbrev pub is_fault : Brief → Bool
@@ -60,5 +44,5 @@ pub record IsDriven (told : Option History) (start : ℕ) (is_alone is_honest : 
   pub run : IsRun options script done.steps
   pub tied : IsTiedTo told options script start is_alone done.steps
   pub reads : ReadsOver told options script done.steps
-  pub written : is_honest → WrittenOver told options script start done.steps
+  pub written : is_honest → WrittenOver told options script done.steps
   pub faults : HasFewFaults before now done.steps

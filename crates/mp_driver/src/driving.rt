@@ -4,7 +4,10 @@ ghost use Rattle.mount_model.specs.Run.{IsRun, is_among, ready};
 ghost use Rattle.mount_core.specs.Core.{state_of};
 ghost use Rattle.mp_driver.specs.declared.schedule.Schedule.TheVariants.{Oldest};
 ghost use Rattle.mp_driver.specs.Calls.{Calls};
-ghost use Rattle.mp_driver.specs.Drive.{HasFewFaults, IsDriven, IsTiedTo, ReadsOver, WrittenOver};
+ghost use Rattle.mount_model.specs.Reads.{ReadsOver};
+ghost use Rattle.mount_model.specs.Tied.{IsTiedTo};
+ghost use Rattle.mount_model.specs.Written.{WrittenOver};
+ghost use Rattle.mp_driver.specs.Drive.{HasFewFaults, IsDriven};
 
 use crate::held::{HeldAnswer, hold, let_go};
 use crate::schedule::Schedule;
@@ -140,7 +143,7 @@ pub fn drive<S: Store, C: Clock>(
 
     // What was written appears whole or not at all, and is there once its close or fsync has succeeded, over the
     // history that an honest store tells at the end.
-    ensures written { S.is_honest store.old → IfOk result (λ done. WrittenOver (S.history store.new) core.options core.script (S.position store.old) done.steps) }
+    ensures written { S.is_honest store.old → IfOk result (λ done. WrittenOver (S.history store.new) core.options core.script done.steps) }
 
     // The record tells at most as many faults as the store's count rose by.
     ensures faults { IfOk result (λ done. HasFewFaults (S.faults store.old) (S.faults store.new) done.steps) }

@@ -2,6 +2,7 @@
 use Rattle.std.proofs.Common.{◌≡◌, ◌≢◌, ℕ, zero, suc, ◌+◌, ◌-◌, List, [], ◌∷◌, ◌++◌, map, length, drop, slice_get, Bool, true, false, Some, None, ◌⊎◌, inl, inr, refl, sym, ap, ◌∙◌, subst, arith, append_assoc}
 use Rattle.std.proofs.lemmas.List.{length-append}
 use Rattle.mp_types.specs.declared.errno.Errno.{Errno}
+use Rattle.bucket_model.specs.Answers.{upload_in}
 use Rattle.bucket_model.specs.declared.call.Call.TheVariants as call
 use Rattle.bucket_model.specs.declared.history.Logged.{Logged}
 use Rattle.upload_rules.specs.declared.upload.UpState.{UpState}
@@ -19,7 +20,7 @@ use Rattle.mount_model.specs.Writers.{has_failed, settled, back_times}
 use Rattle.mount_model.specs.State.{Job, Gone, job_at}
 use Rattle.upload_history.specs.Entries.{IsNumbered}
 use Rattle.run_laws.proofs.Changes.{fails-by, ended-by, lacking-by, backs-by}
-use Rattle.write_laws.specs.Accounted.{Place, StandsAt, upload_in, HasCreated, HasPart, HasMade, AreOfWriter, IsFilled}
+use Rattle.write_laws.specs.Accounted.{Place, StandsAt, HasCreated, HasPart, HasMade, AreOfWriter, IsFilled}
 use Rattle.write_laws.proofs.Found.{found-front, new-found, found-new, Moves, found-moved, moved-found}
 use Rattle.write_laws.proofs.Moved.{owner-moved, call-moved}
 use Rattle.write_laws.proofs.Pushed.{created-pushed}
@@ -95,7 +96,7 @@ gone-pushed opened jobs more number job later stands owned found gone = ap (λ (
 pub created-follows : (log : List Logged) (places now : List Place) (jobs behind : List Job) (opened named : ℕ) (key : List ℕ) → Follows opened jobs behind → Grows places now → HasCreated log places jobs opened named key → HasCreated log now behind opened named key
 created-follows log places now jobs behind opened named key follows grows has =
     let there = follows.there has.number has.job has.stands has.owned in
-    record { number = has.number; job = there.job; stands = there.stands; owned = there.owner_is ∙ has.owned; position = has.position; place = grows has.number has.position has.place; creates = has.creates }
+    record { number = has.number; job = there.job; stands = there.stands; owned = there.owner_is ∙ has.owned; position = has.position; place = grows has.number has.position has.place; creates = has.creates; told = has.told }
 
 pub of-writer-follows : (log : List Logged) (places now : List Place) (jobs behind : List Job) (opened : ℕ) (key : List ℕ) (parts : List (List ℕ)) (by : Created) → Follows opened jobs behind → Grows places now → AreOfWriter log places jobs opened key parts by → AreOfWriter log now behind opened key parts by
 of-writer-follows log places now jobs behind opened key parts by follows grows are = record {

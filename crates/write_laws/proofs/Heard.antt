@@ -7,7 +7,7 @@ use Rattle.bucket_model.specs.declared.call.Call.TheVariants as call
 use Rattle.bucket_model.specs.declared.answer.Brief.{Brief}
 use Rattle.bucket_model.specs.declared.answer.Brief.TheVariants as answer
 use Rattle.bucket_model.specs.declared.history.Logged.{Logged}
-use Rattle.bucket_model.specs.Answers.{is_counted}
+use Rattle.bucket_model.specs.Answers.{is_counted, upload_in}
 use Rattle.bucket_model.specs.History.{HasEntry}
 use Rattle.upload_rules.specs.declared.upload.UpState.{UpState}
 use Rattle.upload_rules.specs.declared.upload.UpState.TheVariants.{Open, Finished, Done, Failed}
@@ -25,7 +25,7 @@ use Rattle.run_laws.specs.Writers.{tally}
 use Rattle.run_laws.proofs.Keyed.{total-two}
 use Rattle.run_laws.proofs.Jobs.{job_number, out-one, if_writer-own}
 use Rattle.upload_history.specs.Entries.{IsCreatedAt}
-use Rattle.write_laws.specs.Accounted.{Place, StandsAt, upload_in, HasCreated, HasPart, AreOfWriter, IsFilled}
+use Rattle.write_laws.specs.Accounted.{Place, StandsAt, HasCreated, HasPart, AreOfWriter, IsFilled}
 use Rattle.write_laws.proofs.Found.{found-number, Moves, found-moved, to_phase, moves-phase, phase-other}
 use Rattle.write_laws.proofs.Filled.{Follows, Grows, follows-moved, created-follows, of-writer-follows, made-follows, same-found, failed_in}
 
@@ -39,6 +39,7 @@ pub record IsAnswerTo (log : List Logged) (places now : List Place) (jobs : List
   pub place : is_counted said ≡ true → StandsAt number position now
   pub entry : is_counted said ≡ true → HasEntry log position job.call said
   pub tells : (named : ℕ) (other : List ℕ) → job.call ≡ call.Create other → said ≡ answer.Upload named → IsCreatedAt log position named other
+  pub gives : (named : ℕ) (other : List ℕ) → job.call ≡ call.Create other → said ≡ answer.Upload named → HasEntry log position (call.Create other) (answer.Upload named)
   pub tallied : IsTallied u (tally opened jobs)
   pub pending : u.pending ≡ calls_out any_call opened jobs
   pub creates_once : calls_made is_create opened jobs ≤ 1
@@ -164,6 +165,7 @@ module _ (log : List Logged) (places now : List Place) (jobs : List Job) (opened
             position = position;
             place = a.place refl;
             creates = subst (IsCreatedAt log position named) keyed (a.tells named other calls refl);
+            told = subst (λ (k : List ℕ). HasEntry log position (call.Create k) (answer.Upload named)) keyed (a.gives named other calls refl);
           });
           named = λ at later upload stands owned names. absurd (unnamed at later upload stands owned names);
           keys = old.keys;

@@ -1,8 +1,9 @@
 -- What holds of all jobs holds when jobs come into other phases, and when answers come.
 use Rattle.std.proofs.Common.{◌≡◌, ℕ, ◌+◌, ◌≤◌, List, map, Some, sym, ap, ◌∙◌, subst}
+use Rattle.bucket_model.specs.Answers.{upload_in}
 use Rattle.bucket_model.specs.declared.history.Logged.{Logged}
 use Rattle.mount_model.specs.State.{Job, Out, Gone, job_at}
-use Rattle.write_laws.specs.Accounted.{Place, StandsAt, upload_in, IsBehind, IsAnswered, HasCreated, IsOfUpload, IsStoredBefore, IsWholeJob, AreAccounted}
+use Rattle.write_laws.specs.Accounted.{Place, StandsAt, IsBehind, IsAnswered, HasCreated, IsOfUpload, IsStoredBefore, IsWholeJob, AreAccounted}
 use Rattle.write_laws.proofs.Found.{Moves, found-moved, moved-found}
 
 -- more answers, and jobs in other phases
@@ -31,6 +32,7 @@ module _ (log : List Logged) (start : ℕ) (stood : ℕ → List ℕ → Type 0)
     position = has.position;
     place = goes.grows has.number has.position has.place;
     creates = has.creates;
+    told = has.told;
   }
 
   stored-moved : (upload first number : ℕ) (bytes : List ℕ) (last : ℕ) (job : Job) → job_at last jobs ≡ Some job → IsStoredBefore log places upload first number bytes last job.phase → IsStoredBefore log now upload first number bytes last (f job).phase

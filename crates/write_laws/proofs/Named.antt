@@ -16,6 +16,7 @@ use Rattle.mp_rules.specs.Walk.{Decision, Need, Is, Refused, fact_in, walk}
 use Rattle.mp_rules.specs.Local.{LocalNames, local_at, has_name_below}
 use Rattle.listing_rules.specs.Names.{listing_of, prefix_of}
 use Rattle.listing_rules.specs.Pages.{items_of, last_text}
+use Rattle.bucket_model.specs.Answers.{upload_in}
 use Rattle.bucket_model.specs.declared.call.Call.{Call}
 use Rattle.bucket_model.specs.declared.page.Page.{Page}
 use Rattle.bucket_model.specs.declared.answer.Brief.{Brief}
@@ -41,7 +42,6 @@ use Rattle.mount_model.specs.Conversation.{Next, Asks, Replies, Removes, Opens, 
 use Rattle.mount_model.specs.Written.{content_in}
 use Rattle.run_laws.specs.Writers.{waiting_line}
 use Rattle.run_laws.proofs.Conversation.{ends_as}
-use Rattle.write_laws.specs.Accounted.{upload_in}
 
 -- what a line does next that names the handle of a writer: it fails, writes, or has the writer end
 pub data NamedNext (line : ℕ) (request : Request) (w : Writer) (next : Next) : Type 0 where

@@ -1,10 +1,11 @@
 -- What holds of all jobs holds with one more, where that fits.
 use Rattle.std.proofs.Common.{◌≡◌, ◌≢◌, ℕ, List, [], ◌∷◌, ◌++◌, Some, None, inl, inr, sym, ap, ◌∙◌, subst}
+use Rattle.bucket_model.specs.Answers.{upload_in}
 use Rattle.bucket_model.specs.declared.call.Call.TheVariants as call
 use Rattle.bucket_model.specs.declared.history.Logged.{Logged}
 use Rattle.mount_model.specs.declared.event.Owner.TheVariants as owner
 use Rattle.mount_model.specs.State.{Job, Out, Gone, job_at}
-use Rattle.write_laws.specs.Accounted.{Place, upload_in, IsBehind, HasCreated, IsOfUpload, IsWholeJob, AreAccounted}
+use Rattle.write_laws.specs.Accounted.{Place, IsBehind, HasCreated, IsOfUpload, IsWholeJob, AreAccounted}
 use Rattle.write_laws.proofs.Found.{found-front, new-found}
 
 -- It fits what is there: its upload was created by its writer, no part is asked for behind the object, and an abort not
@@ -27,6 +28,7 @@ created-pushed log places jobs more opened upload key has = record {
   position = has.position;
   place = has.place;
   creates = has.creates;
+  told = has.told;
 }
 
 upload-pushed : (log : List Logged) (places : List Place) (jobs more : List Job) (upload number : ℕ) (job : Job) → IsOfUpload log places jobs upload number job → IsOfUpload log places (jobs ++ more) upload number job

@@ -2,6 +2,7 @@
 use Rattle.std.proofs.Common.{◌≡◌, ◌≢◌, ℕ, ◌+◌, List, [], ◌∷◌, ◌++◌, fold, length, Bool, true, false, ◌&&◌, ◌==◌, if◌then◌else◌, Option, Some, None, inl, inr, refl, sym, ap, ◌∙◌, subst, arith, append-nil}
 use Rattle.std.specs.FinMap as table
 use Rattle.mp_types.specs.HandleName.{HandleName}
+use Rattle.bucket_model.specs.Answers.{upload_in}
 use Rattle.bucket_model.specs.declared.call.Call.{Call}
 use Rattle.bucket_model.specs.declared.call.Call.TheVariants as call
 use Rattle.bucket_model.specs.declared.history.Logged.{Logged}
@@ -38,7 +39,7 @@ use Rattle.run_laws.proofs.Left.{left_under, writer_with}
 use Rattle.run_laws.proofs.Effects.{asks-shared, waits-shared, Effect, Keeps, OpensOne, CreatesOne, ClosesOne, reply-effect, not-replied, line-unmade}
 use Rattle.run_laws.proofs.Steps.{next_now, heard_now, StepIs, LineStep, WriterStep, TakeStep, step-is}
 use Rattle.run_laws.proofs.Alive.{quiet-jobs, asks-jobs, turn-look, lines_behind, jobs_behind, shared_behind, own-reply}
-use Rattle.write_laws.specs.Accounted.{Place, with_place, upload_in, AreAccounted, IsFilled, IsAccounted}
+use Rattle.write_laws.specs.Accounted.{Place, with_place, AreAccounted, IsFilled, IsAccounted}
 use Rattle.write_laws.proofs.Found.{found-none}
 use Rattle.write_laws.proofs.Pushed.{Joins, all-pushed}
 use Rattle.write_laws.proofs.Filled.{filled-follows, filled-new}

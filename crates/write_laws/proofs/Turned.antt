@@ -2,6 +2,7 @@
 -- failed, and is given up.
 use Rattle.std.proofs.Common.{◌≡◌, ◌≢◌, ℕ, zero, suc, ◌+◌, ◌≤◌, List, [], ◌∷◌, ◌++◌, fold, length, Bool, true, false, if◌then◌else◌, Some, None, ◌⊎◌, inl, inr, refl, sym, ap, ◌∙◌, subst, arith, append_assoc, append-nil}
 use Rattle.std.proofs.lemmas.List.{length-append, nil_from_length}
+use Rattle.bucket_model.specs.Answers.{upload_in}
 use Rattle.bucket_model.specs.declared.call.Call.{Call}
 use Rattle.bucket_model.specs.declared.call.Call.TheVariants as call
 use Rattle.bucket_model.specs.declared.answer.Brief.TheVariants as answer
@@ -34,7 +35,7 @@ use Rattle.run_laws.proofs.Places.{pending-settled, pending-back}
 use Rattle.run_laws.proofs.Asked.{AsksAll, asked_jobs, asked-append, asked-front, asked-length, writer_job, IsInTurn, asks-along, ask-turn}
 use Rattle.run_laws.proofs.WriterTurn.{HappensInTurn}
 use Rattle.upload_history.specs.Entries.{IsCreatedAt}
-use Rattle.write_laws.specs.Accounted.{Place, upload_in, IsBehind, IsWholeJob, AreAccounted, IsFilled}
+use Rattle.write_laws.specs.Accounted.{Place, IsBehind, IsWholeJob, AreAccounted, IsFilled}
 use Rattle.write_laws.proofs.Found.{found-none, found-moved, moves-dropped, dropped-phase}
 use Rattle.write_laws.proofs.Moved.{Advances, all-moved}
 use Rattle.write_laws.proofs.Pushed.{Joins, all-pushed}

@@ -4,6 +4,7 @@ use Rattle.std.specs.FinMap as table
 use Rattle.mp_types.specs.HandleName.{HandleName}
 use Rattle.bucket_model.specs.declared.call.Call.TheVariants as call
 use Rattle.bucket_model.specs.declared.answer.Brief.{Brief}
+use Rattle.bucket_model.specs.declared.answer.Brief.TheVariants as answer
 use Rattle.bucket_model.specs.declared.history.Logged.{Logged}
 use Rattle.bucket_model.specs.Answers.{is_counted}
 use Rattle.bucket_model.specs.History.{HasEntry, IsLegalHistory}
@@ -229,6 +230,10 @@ module _ (log : List Logged) (start : ℕ) (stood later : ℕ → List ℕ → T
       let all = b.accounted.jobs in
       let ties : TiesEvent start log state (Done heard.number heard.position heard.said) = subst (TiesEvent start log state) heard.event_is b.ties in
       let entry : is_counted heard.said ≡ true → HasEntry log heard.position heard.may.job.call heard.said = λ counted. ties counted heard.may.job heard.may.stands in
+      let told_upload : (named : ℕ) (other : List ℕ) → heard.may.job.call ≡ call.Create other → heard.said ≡ answer.Upload named → HasEntry log heard.position (call.Create other) (answer.Upload named) = λ named other calls said.
+          (let told = entry (ap is_counted said) in
+          record { logged = told.logged; stands = told.stands; call = told.call ∙ calls; brief = told.brief ∙ said })
+      in
       heard-filled log places (with_place places (Done heard.number heard.position heard.said)) state.jobs heard.before.line heard.before.key (taken heard.before.line) heard.before.upload heard.number heard.may.job heard.position heard.called heard.said (sym heard.called_is)
       (record {
         stands = heard.may.stands;
@@ -238,9 +243,8 @@ module _ (log : List Logged) (start : ℕ) (stood later : ℕ → List ℕ → T
         grows = event-grows places (Done heard.number heard.position heard.said);
         place = λ counted. done-place places heard.number heard.position heard.said counted;
         entry = entry;
-        tells = λ named other calls said.
-            let told = entry (ap is_counted said) in
-            tells-created log heard.position named other b.legal_log (record { logged = told.logged; stands = told.stands; call = told.call ∙ calls; brief = told.brief ∙ said });
+        tells = λ named other calls said. tells-created log heard.position named other b.legal_log (told_upload named other calls said);
+        gives = λ named other calls said. told_upload named other calls said;
         tallied = writer.tallied;
         pending = writer.pending;
         creates_once = (b.alive.writers.once heard.before.line).creates;

@@ -2,13 +2,14 @@
 use Rattle.std.proofs.Common.{◌≡◌, ℕ, ◌<◌, ◌≤◌, List, take, slice_get, true, Option, Some, None, inl, inr, refl, sym, ap, ◌∙◌, subst, arith}
 use Rattle.std.proofs.lemmas.Bool.{cases_eq}
 use Rattle.mp_types.specs.declared.options.Opts.{Opts}
+use Rattle.bucket_model.specs.Answers.{upload_in}
 use Rattle.bucket_model.specs.declared.call.Call.{Call}
 use Rattle.bucket_model.specs.declared.call.Call.TheVariants as call
 use Rattle.bucket_model.specs.declared.history.Name.{Name}
 use Rattle.bucket_model.specs.declared.history.Name.TheVariants as name
 use Rattle.bucket_model.specs.declared.history.Logged.{Logged}
 use Rattle.bucket_model.specs.Bucket.{ObjectVersion, Whole, version_made, version_named}
-use Rattle.bucket_model.specs.History.{IsLegalHistory, IsChange, replay}
+use Rattle.bucket_model.specs.History.{IsLegalHistory, replay}
 use Rattle.upload_history.specs.Entries.{HasCall, HasParts, whole_from}
 use Rattle.upload_history.proofs.Laws.{version_is}
 use Rattle.mount_model.specs.declared.request.Line.{Line}
@@ -16,16 +17,15 @@ use Rattle.mount_model.specs.declared.event.Owner.TheVariants as owner
 use Rattle.mount_model.specs.Step.{Step}
 use Rattle.mount_model.specs.State.{ClientState, Job, job_at, state_after}
 use Rattle.mount_model.specs.Run.{is_among}
+use Rattle.mount_model.specs.Tied.{HasItsUploads, WasGiven}
 use Rattle.mount_model.specs.Written.{HasStood, IsCompletion, IsMadeAt, IsOfWriter}
 use Rattle.run_laws.specs.Counts.{is_complete, if_writer, made_job, calls_made}
 use Rattle.run_laws.proofs.Keyed.{total-two}
 use Rattle.run_laws.proofs.Jobs.{job_number, if_writer-own}
-use Rattle.write_laws.specs.Accounted.{Place, StandsAt, upload_in, HasCreated, IsWholeJob, AreAccounted, IsAccounted, taken_in}
+use Rattle.write_laws.specs.Accounted.{Place, StandsAt, HasCreated, IsWholeJob, AreAccounted, IsAccounted, taken_in}
 use Rattle.write_laws.proofs.Filled.{same-found}
 use Rattle.write_laws.proofs.Accepted.{created-once}
 use Rattle.write_laws.proofs.Run.{IsSound}
-
--- each entry of a run that is no change of others is a job's
 
 -- whose entry it is
 pub record IsOfJob (places : List Place) (jobs : List Job) (position : ℕ) (called : Call) : Type 0 where
@@ -34,9 +34,6 @@ pub record IsOfJob (places : List Place) (jobs : List Job) (position : ℕ) (cal
   pub stands : job_at number jobs ≡ Some job
   pub place : StandsAt number position places
   pub calls : job.call ≡ called
-
-abbrev pub AreOurs : ℕ → List Logged → List ℕ → Type 0
-AreOurs start log positions = (position : ℕ) (logged : Logged) → start ≤ position → slice_get log position ≡ Some logged → (IsChange logged.entry.call → ⊥) → is_among position positions ≡ true
 
 pub logged-same : (log : List Logged) (position : ℕ) (one two : Logged) → slice_get log position ≡ Some one → slice_get log position ≡ Some two → one ≡ two
 logged-same log position one two first second = let both : Some one ≡ Some two = sym first ∙ second in cc
@@ -47,9 +44,8 @@ placed-job log start stood taken places jobs number position called all place ha
     let same = logged-same log position is.logged has.logged is.entry has.stands in
     record { number = number; job = is.job; stands = is.stands; place = place; calls = sym is.calls ∙ ap (λ (l : Logged). l.entry.call) same ∙ has.calls }
 
-pub our-job : (log : List Logged) (start : ℕ) (stood : ℕ → List ℕ → Type 0) (taken : ℕ → List ℕ) (places : List Place) (now : ClientState) (position : ℕ) (called : Call) → IsAccounted log start stood taken places now → AreOurs start log now.positions → start ≤ position → (IsChange called → ⊥) → HasCall log position called → IsOfJob places now.jobs position called
-our-job log start stood taken places now position called accounted ours late other has =
-    let among = ours position has.logged late has.stands (λ change. other (subst IsChange has.calls change)) in
+pub our-job : (log : List Logged) (start : ℕ) (stood : ℕ → List ℕ → Type 0) (taken : ℕ → List ℕ) (places : List Place) (now : ClientState) (position : ℕ) (called : Call) → IsAccounted log start stood taken places now → is_among position now.positions ≡ true → HasCall log position called → IsOfJob places now.jobs position called
+our-job log start stood taken places now position called accounted among has =
     let found = accounted.placed position among in
     placed-job log start stood taken places now.jobs found.0 position called accounted.jobs found.1 has
 
@@ -75,7 +71,7 @@ one-complete opened n m jobs first second one other count more once stands there
 pub record IsEnd (log : List Logged) (start : ℕ) (options : Opts) (script : List Line) (steps : List Step) (places : List Place) : Type 0 where
   pub legal : IsLegalHistory log
   pub sound : IsSound log start options script places steps
-  pub ours : AreOurs start log (state_after options script steps).positions
+  pub uploads : HasItsUploads start log (state_after options script steps).positions
 
 -- a job that completed an upload, with its answer
 pub record HasCompleted (log : List Logged) (start : ℕ) (options : Opts) (script : List Line) (steps : List Step) (places : List Place) (position upload count : ℕ) : Type 0 where
@@ -126,15 +122,15 @@ module _ (log : List Logged) (start : ℕ) (options : Opts) (script : List Line)
         let stored = has.is.each index bytes listed in
         record { position = stored.position; behind = stored.behind_first; before = stored.before_last.done position has.place; logged = stored.entry.logged; stands = stored.entry.stands; calls = stored.entry.call; answered = stored.entry.brief };
     only = λ at which bytes behind before entry.
-        let of = our at (call.Part upload which bytes) behind (λ change. change) entry in
+        let of = our at (call.Part upload which bytes) behind refl entry in
         has.is.only of.number of.job upload which bytes of.stands (owned of.number of.job of.stands (ap upload_in of.calls)) of.calls;
     no_complete = λ at some behind before entry.
-        let of = our at (call.Complete upload some) behind (λ change. change) entry in
+        let of = our at (call.Complete upload some) behind refl entry in
         let same = one-complete has.is.opened has.number of.number jobs has.job of.job upload upload count some (end.sound.alive.writers.once has.is.opened).completes has.found of.stands has.is.owned (owned of.number of.job of.stands (ap upload_in of.calls)) has.calls of.calls in
         let place_is = all.one_place has.number position at has.place (subst (λ (k : ℕ). StandsAt k at places) (sym same) of.place) in
         absurd (omega (arith, place_is, before));
     no_abort = λ at behind before entry.
-        let of = our at (call.Abort upload) behind (λ change. change) entry in
+        let of = our at (call.Abort upload) behind refl entry in
         let late = all.aborts of.number of.job has.number has.job has.is.opened upload upload count of.stands (owned of.number of.job of.stands (ap upload_in of.calls)) of.calls has.found has.is.owned has.calls in
         let less = (late.1 position has.place).done at of.place in
         absurd (omega (arith, less, before));
@@ -146,11 +142,24 @@ module _ (log : List Logged) (start : ℕ) (options : Opts) (script : List Line)
       all : AreAccounted log start (HasStood options script steps) (taken_in options script steps) places (state_after options script steps).jobs
       all = end.sound.accounted.jobs
 
-      our : (at : ℕ) (called : Call) → has.is.created.position < at → (IsChange called → ⊥) → HasCall log at called → IsOfJob places (state_after options script steps).jobs at called
-      our at called behind other entry =
+      -- the upload was given to a job, so that each call that names it is a job's
+      given : WasGiven log (state_after options script steps).positions upload
+      given =
+          let created = has.is.created in
+          record {
+            position = created.position;
+            own = end.sound.accounted.seen created.number created.position created.place;
+            logged = created.told.logged;
+            stands = created.told.stands;
+            gives = created.told.brief;
+          }
+
+      our : (at : ℕ) (called : Call) → has.is.created.position < at → upload_in called ≡ Some upload → HasCall log at called → IsOfJob places (state_after options script steps).jobs at called
+      our at called behind names entry =
           let created = all.answered has.is.created.number has.is.created.position has.is.created.place in
           let late = created.late in
-          our-job log start (HasStood options script steps) (taken_in options script steps) places (state_after options script steps) at called end.sound.accounted end.ours (omega (arith, late, behind)) other entry
+          let among = end.uploads at entry.logged upload (omega (arith, late, behind)) entry.stands (ap upload_in entry.calls ∙ names) given in
+          our-job log start (HasStood options script steps) (taken_in options script steps) places (state_after options script steps) at called end.sound.accounted among entry
 
       owned : (number : ℕ) (job : Job) → job_at number (state_after options script steps).jobs ≡ Some job → upload_in job.call ≡ Some upload → job.owner ≡ owner.Writer has.is.opened
       owned number job stands names =
@@ -162,14 +171,14 @@ module _ (log : List Logged) (start : ℕ) (options : Opts) (script : List Line)
   completed-makes position upload count logged has stands calls =
       version_is log upload has.is.created.position position has.is.key has.is.parts logged end.legal has.is.created.creates (completed-parts position upload count has) (completed-behind position upload count has) stands (calls ∙ ap (call.Complete upload) has.is.count_is)
 
-  -- each object of an upload is whole
-  pub whole-objects : (position : ℕ) (key bytes : List ℕ) → start ≤ position → IsMadeAt log position key bytes → IsOfWriter options script steps key bytes
-  whole-objects position key bytes late made =
+  -- each object of an upload of the run is whole
+  pub whole-objects : (position : ℕ) (key bytes : List ℕ) → is_among position (state_after options script steps).positions ≡ true → IsMadeAt log position key bytes → IsOfWriter options script steps key bytes
+  whole-objects position key bytes among made =
       let called = completion-is made.logged.entry.call made.completes in
       let upload : ℕ = called.0 in
       let count : ℕ = called.1 in
       let entry : HasCall log position (call.Complete upload count) = record { logged = made.logged; stands = made.stands; calls = called.2 } in
-      let of = our-job log start (HasStood options script steps) (taken_in options script steps) places (state_after options script steps) position (call.Complete upload count) end.sound.accounted end.ours late (λ change. change) entry in
+      let of = our-job log start (HasStood options script steps) (taken_in options script steps) places (state_after options script steps) position (call.Complete upload count) end.sound.accounted among entry in
       let has = completed-job position upload count of in
       let makes = completed-makes position upload count made.logged has made.stands called.2 in
       let same = named-is made.logged.made (whole_from has.is.key has.is.parts) (record { key = key; etag = made.etag; bytes = bytes }) (sym makes ∙ made.makes) in

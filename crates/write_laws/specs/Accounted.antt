@@ -7,7 +7,7 @@ use Rattle.bucket_model.specs.declared.call.Call.{Call}
 use Rattle.bucket_model.specs.declared.call.Call.TheVariants as call
 use Rattle.bucket_model.specs.declared.answer.Brief.TheVariants as answer
 use Rattle.bucket_model.specs.declared.history.Logged.{Logged}
-use Rattle.bucket_model.specs.Answers.{is_counted}
+use Rattle.bucket_model.specs.Answers.{is_counted, upload_in}
 use Rattle.bucket_model.specs.History.{HasEntry}
 use Rattle.upload_history.specs.Entries.{IsCreatedAt, IsNumbered}
 use Rattle.upload_rules.specs.declared.upload.UpState.TheVariants as state
@@ -42,13 +42,6 @@ abbrev pub with_place : List Place → Event → List Place
 with_place places (Done job position answer) = if is_counted answer then record { job = job; position = position } ∷ places else places
 with_place places other = places
 
--- the upload that a call names
-abbrev pub upload_in : Call → Option ℕ
-upload_in (call.Part upload number bytes) = Some upload
-upload_in (call.Complete upload parts) = Some upload
-upload_in (call.Abort upload) = Some upload
-upload_in other = None
-
 -- a job is behind a position: it was taken behind it, and so was answered behind it
 pub record IsBehind (places : List Place) (position number : ℕ) (phase : JobPhase) : Type 0 where
   pub out : (from : ℕ) → phase ≡ Out from → position < from
@@ -64,7 +57,7 @@ pub record IsAnswered (log : List Logged) (start number position : ℕ) (jobs : 
   pub entry : slice_get log position ≡ Some logged
   pub calls : logged.entry.call ≡ job.call
 
--- a job of the line's writer created the upload
+-- a job of the line's writer created the upload, and was told so
 pub record HasCreated (log : List Logged) (places : List Place) (jobs : List Job) (opened upload : ℕ) (key : List ℕ) : Type 0 where
   pub number : ℕ
   pub job : Job
@@ -73,6 +66,7 @@ pub record HasCreated (log : List Logged) (places : List Place) (jobs : List Job
   pub position : ℕ
   pub place : StandsAt number position places
   pub creates : IsCreatedAt log position upload key
+  pub told : HasEntry log position (call.Create key) (answer.Upload upload)
 
 -- a job that names an upload is of the writer that created it, and behind that
 pub record IsOfUpload (log : List Logged) (places : List Place) (jobs : List Job) (upload number : ℕ) (job : Job) : Type 0 where
