@@ -2,10 +2,8 @@ pub mod Conversation
 pub mod Handles
 pub mod Heard
 pub mod Reads
-pub mod RecordText
 pub mod Replies
 pub mod Run
-pub mod ScriptText
 pub mod State
 pub mod Step
 pub mod Tied

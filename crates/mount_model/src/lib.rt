@@ -3,14 +3,12 @@
 #![tactic(auto)]
 
 mod event;
-mod fault;
 mod handle;
 mod record;
 mod request;
 mod standing;
 
 pub use event::{Answered, Ask, AskedCall, Event, Owner};
-pub use fault::{ScriptCause, What};
 pub use handle::{Handle, Version, Waiter, Writer};
 pub use record::{Item, Record};
 pub use request::{Line, Reply, Request, Script};

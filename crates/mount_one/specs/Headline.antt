@@ -2,18 +2,18 @@
 use Rattle.std.specs.Prelude.{◌≡◌, ℕ, ◌<◌, ◌≤◌, List, [], ◌∷◌, length, codes, Option, Some, None, Ok, Err, ◌⊎◌}
 use Rattle.mp_types.specs.Options.{default_options}
 use Rattle.bucket_model.specs.History.{History}
-use Rattle.mount_model.specs.declared.fault.What.{What}
-use Rattle.mount_model.specs.declared.fault.What.TheVariants.{Bytes, Lines, Reads, Data}
+use Rattle.mp_script.specs.declared.cause.What.{What}
+use Rattle.mp_script.specs.declared.cause.What.TheVariants.{Bytes, Lines, Reads, Data}
 use Rattle.mount_model.specs.declared.request.Line.{Line}
 use Rattle.mount_model.specs.Step.{Step}
 use Rattle.mount_model.specs.Run.{IsRun}
-use Rattle.mount_model.specs.RecordText.{record_text}
-use Rattle.mount_model.specs.ScriptText.{Refusal, Bad, script_of, max_script_bytes}
-use Rattle.mount_model.specs.ScriptText as text
 use Rattle.mount_model.specs.Reads.{ReadsOver}
 use Rattle.mount_model.specs.Tied.{IsTiedTo}
 use Rattle.mount_model.specs.Written.{WrittenOver}
 use Rattle.mp_driver.specs.Drive.{HasFewFaults}
+use Rattle.mp_record.specs.RecordText.{record_text}
+use Rattle.mp_script.specs.ScriptText.{Refusal, Bad, script_of, max_script_bytes}
+use Rattle.mp_script.specs.ScriptText as text
 use Rattle.mp_record.specs.Appends.{Appends, AppendsFront}
 use Rattle.mount_one.specs.Reading.{IsSpent}
 use Rattle.mount_one.specs.declared.status.Status.{Status}

@@ -1,9 +1,9 @@
 -- The words that stand for a status's parts in its line on standard error.
 use Rattle.std.specs.Prelude.{ℕ, List, codes}
-use Rattle.mount_model.specs.declared.fault.ScriptCause.{ScriptCause}
-use Rattle.mount_model.specs.declared.fault.ScriptCause.TheVariants.{Actor, Verb, Words, Handle, Number, Escape, Utf8, Key, Data}
-use Rattle.mount_model.specs.declared.fault.What.{What}
-use Rattle.mount_model.specs.declared.fault.What.TheVariants.{Bytes, Lines, Reads, Data as Stored}
+use Rattle.mp_script.specs.declared.cause.ScriptCause.{ScriptCause}
+use Rattle.mp_script.specs.declared.cause.ScriptCause.TheVariants.{Actor, Verb, Words, Handle, Number, Escape, Utf8, Key, Data}
+use Rattle.mp_script.specs.declared.cause.What.{What}
+use Rattle.mp_script.specs.declared.cause.What.TheVariants.{Bytes, Lines, Reads, Data as Stored}
 
 abbrev pub cause_words : ScriptCause → List ℕ
 cause_words Actor = codes "actor"

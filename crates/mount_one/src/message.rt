@@ -2,7 +2,7 @@ ghost use Rattle.std.specs.Prelude.{◌≡◌};
 ghost use Rattle.mount_one.specs.Messages.{cause_words, what_words};
 
 use crate::status::Status;
-use mount_model::{ScriptCause, What};
+use mp_script::{ScriptCause, What};
 use std::io;
 
 fn cause_text(cause: ScriptCause) -> &'static str

@@ -1,7 +1,7 @@
 ghost use Rattle.std.specs.Prelude.{◌≡◌};
 ghost use Rattle.mount_one.specs.Statuses.{code_of};
 
-use mount_model::{ScriptCause, What};
+use mp_script::{ScriptCause, What};
 
 /// How a run ended.
 #[derive(Clone, Copy, Debug, PartialEq, Eq)]

@@ -1,8 +1,8 @@
 use crate::served::run;
 use crate::status::Status;
 use mem_store::MemStore;
-use mount_model::{ScriptCause, What};
 use mp_io::{Clock, ListClock, MemSink, MemSource};
+use mp_script::{ScriptCause, What};
 use mp_types::Text;
 use std::alloc::Global;
 use std::test::Fail;

@@ -3,7 +3,7 @@ use Rattle.std.proofs.Common.{◌≡◌, ℕ, ◌<◌, List, [], ◌∷◌, ◌+
 use Rattle.std.specs.List.{list_all}
 use Rattle.std.proofs.lemmas.Bool.{and_parts}
 use Rattle.mp_types.specs.Plain.{is_plain}
-use Rattle.mount_model.specs.RecordText.{escaped_byte, escaped}
+use Rattle.mp_record.specs.RecordText.{escaped_byte, escaped}
 
 plain_or : (b : Bool) (here there : List ℕ) → b ≡ true → (if b then here else there) ≡ here
 plain_or true here there is = refl

@@ -6,7 +6,7 @@ use Rattle.bucket_model.specs.Along.{Along}
 use Rattle.mount_model.specs.declared.record.Item.{Item}
 use Rattle.mount_model.specs.declared.record.Item.TheVariants as item
 use Rattle.mount_model.specs.Step.{Step, step_of, with_drop, with_ask, with_reply, change_last, with_item, steps_of, MayFollow, IsRow}
-use Rattle.mount_model.specs.RecordText.{event_text, drop_text, ask_text, reply_text, step_text, record_text}
+use Rattle.mp_record.specs.RecordText.{event_text, drop_text, ask_text, reply_text, step_text, record_text}
 use Rattle.mount_model.proofs.Order.{change_last-push}
 use Rattle.mp_record.specs.declared.kind.Kind.TheVariants as kind
 use Rattle.mp_record.specs.ItemText.{text_of_kind, items_text}

@@ -4,7 +4,7 @@ use Rattle.hex.specs.Hex.{encode_with, encode_lower}
 use Rattle.mount_model.specs.declared.request.Reply.{Reply}
 use Rattle.mount_model.specs.declared.request.Reply.TheVariants as reply
 use Rattle.mount_model.specs.declared.event.Answered.{Answered}
-use Rattle.mount_model.specs.RecordText.{said_text, reply_text}
+use Rattle.mp_record.specs.RecordText.{said_text, reply_text}
 use Rattle.mp_record.specs.Appends.{AppendsBut, AppendsFront}
 use Rattle.mp_record.specs.ItemText.{data_in, said_start, reply_start}
 use Rattle.mp_record.proofs.Appends.{AppendsBut-more, AppendsFront-more}

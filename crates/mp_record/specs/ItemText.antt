@@ -5,7 +5,7 @@ use Rattle.mount_model.specs.declared.record.Item.TheVariants as item
 use Rattle.mount_model.specs.declared.request.Reply.{Reply}
 use Rattle.mount_model.specs.declared.request.Reply.TheVariants as reply
 use Rattle.mount_model.specs.declared.event.Answered.{Answered}
-use Rattle.mount_model.specs.RecordText.{event_text, drop_text, ask_text, said_text, reply_text}
+use Rattle.mp_record.specs.RecordText.{event_text, drop_text, ask_text, said_text, reply_text}
 use Rattle.mp_record.specs.declared.kind.Kind.{Kind}
 use Rattle.mp_record.specs.declared.kind.Kind.TheVariants as kind
 

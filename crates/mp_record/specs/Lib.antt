@@ -1,3 +1,4 @@
 pub mod Appends
 pub mod ItemText
+pub mod RecordText
 pub mod Rows

@@ -1,5 +1,5 @@
 ghost use Rattle.std.specs.Prelude.{◌≡◌, ◌++◌, flat_map, codes, decimal, length, OnOk};
-ghost use Rattle.mount_model.specs.RecordText.{entry_text, escaped};
+ghost use Rattle.mp_record.specs.RecordText.{entry_text, escaped};
 
 use crate::item_text::{push_counted, push_text};
 use mp_rules::DirEntry;

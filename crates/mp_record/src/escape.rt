@@ -1,7 +1,7 @@
 ghost use Rattle.std.specs.Prelude.{◌≡◌, ◌++◌, ◌<◌, flat_map, OnOk};
 ghost use Rattle.std.specs.List.{list_all};
 ghost use Rattle.mp_types.specs.Plain.{is_plain};
-ghost use Rattle.mount_model.specs.RecordText.{hex_digit, escaped_byte, escaped};
+ghost use Rattle.mp_record.specs.RecordText.{hex_digit, escaped_byte, escaped};
 
 use mp_types::is_plain;
 use std::alloc::AllocError;

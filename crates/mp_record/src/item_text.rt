@@ -1,5 +1,5 @@
 ghost use Rattle.std.specs.Prelude.{◌≡◌, ◌++◌, flat_map, codes, decimal, OnOk};
-ghost use Rattle.mount_model.specs.RecordText.{item_text, page_text, answer_text, event_text, drop_text, owner_text, escaped, call_text, ask_text};
+ghost use Rattle.mp_record.specs.RecordText.{item_text, page_text, answer_text, event_text, drop_text, owner_text, escaped, call_text, ask_text};
 
 use crate::escape::push_escaped;
 use bucket_model::{Brief, Page, PageItem};

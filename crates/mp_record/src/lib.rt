@@ -1,4 +1,4 @@
-//! The text of a record, written to a sink. What the text is stands in mount_model's definitions.
+//! The text of a record, written to a sink. What the text is stands in the definitions of this crate.
 //! Nothing here decides what is recorded.
 #![tactic(auto)]
 

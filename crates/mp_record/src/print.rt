@@ -2,7 +2,7 @@ ghost use Rattle.mp_types.specs.Count.{HasRisen};
 ghost use Rattle.std.specs.Prelude.{◌≡◌, ◌≤◌, [], ◌++◌, OnOk, IsErrOf};
 ghost use Rattle.hex.specs.Hex.{encode_lower};
 ghost use Rattle.mount_model.specs.Step.{steps_of, IsRow};
-ghost use Rattle.mount_model.specs.RecordText.{reply_text, record_text};
+ghost use Rattle.mp_record.specs.RecordText.{reply_text, record_text};
 ghost use Rattle.mp_record.specs.Appends.{Appends, AppendsFront, AppendsBut};
 ghost use Rattle.mp_record.specs.ItemText.{text_as, text_of_kind, items_text};
 ghost use Rattle.mp_record.specs.declared.print.PrintFault.TheVariants as print_fault;

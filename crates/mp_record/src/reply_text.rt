@@ -1,5 +1,5 @@
 ghost use Rattle.std.specs.Prelude.{◌≡◌, ◌++◌, codes, OnOk};
-ghost use Rattle.mount_model.specs.RecordText.{errno_text};
+ghost use Rattle.mp_record.specs.RecordText.{errno_text};
 ghost use Rattle.mp_record.specs.ItemText.{data_in, said_start, reply_start};
 
 use crate::entry_text::push_listing;

@@ -1,14 +1,14 @@
 -- Words, and the request that they spell.
 use Rattle.std.proofs.Common.{◌≡◌, ℕ, ◌<◌, false, List, [], ◌∷◌, codes, Result, Ok, Err, refl, arith}
 use Rattle.std.proofs.lemmas.Bool.{ne_eqb}
-use Rattle.mount_model.specs.declared.fault.ScriptCause.{ScriptCause}
-use Rattle.mount_model.specs.declared.fault.ScriptCause.TheVariants as cause
+use Rattle.mp_script.specs.declared.cause.ScriptCause.{ScriptCause}
+use Rattle.mp_script.specs.declared.cause.ScriptCause.TheVariants as cause
 use Rattle.mount_model.specs.declared.request.Request.{Request}
-use Rattle.mount_model.specs.ScriptText.{is_word, change_of, asked_by_process, await_of, actor_of, request_of, words_request, words_asked}
+use Rattle.mp_script.specs.ScriptText.{is_word, change_of, asked_by_process, await_of, actor_of, request_of, words_request, words_asked}
 use Rattle.mp_script.specs.declared.fault.Fault.{Fault}
 use Rattle.mp_script.specs.declared.fault.Fault.TheVariants as fault
 use Rattle.mp_script.specs.Reads.{Fails, asked}
-use Rattle.mount_model.specs.ScriptText.{words_of}
+use Rattle.mp_script.specs.ScriptText.{words_of}
 use Rattle.mp_script.proofs.Pieces.{has_first}
 
 pub awaits_none : (text : List ℕ) → await_of (words_of text) ≡ Err cause.Words

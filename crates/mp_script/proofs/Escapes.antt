@@ -9,9 +9,9 @@ use Rattle.std.proofs.lemmas.Str.{is_utf8-from_IsUtf8, IsUtf8-from_is_utf8}
 use Rattle.hex.specs.declared.error.FromHexError.{FromHexError}
 use Rattle.hex.specs.declared.error.FromHexError.TheVariants.{InvalidHexCharacter}
 use Rattle.hex.specs.Hex.{hex_digit_value, is_hex_digit, digit_or_error, decode_pairs, decode_sized, ◌>>=◌}
-use Rattle.mount_model.specs.declared.fault.ScriptCause.{ScriptCause}
-use Rattle.mount_model.specs.declared.fault.ScriptCause.TheVariants as cause
-use Rattle.mount_model.specs.ScriptText.{stands_for_itself, is_escape, spelled, onto, unescaped, escaped_bytes, text_of}
+use Rattle.mp_script.specs.declared.cause.ScriptCause.{ScriptCause}
+use Rattle.mp_script.specs.declared.cause.ScriptCause.TheVariants as cause
+use Rattle.mp_script.specs.ScriptText.{stands_for_itself, is_escape, spelled, onto, unescaped, escaped_bytes, text_of}
 use Rattle.memchr.specs.Find.{IsFirstByte, is_byte}
 use Rattle.mp_script.specs.Words.{has, put_in_front}
 use Rattle.mp_script.proofs.Pieces.{not_found, none_before}

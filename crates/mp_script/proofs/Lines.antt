@@ -1,10 +1,10 @@
 -- Lines, one below the other.
 use Rattle.std.proofs.Common.{◌≡◌, ℕ, ◌+◌, ◌<◌, Bool, true, false, cond, List, [], ◌∷◌, ◌++◌, Result, Ok, Err, refl, ap, subst, append_assoc, arith}
 use Rattle.std.proofs.lemmas.List.{append-nil}
-use Rattle.mount_model.specs.declared.fault.ScriptCause.{ScriptCause}
+use Rattle.mp_script.specs.declared.cause.ScriptCause.{ScriptCause}
 use Rattle.mount_model.specs.declared.request.Line.{Line}
 use Rattle.mount_model.specs.Run.{AreRising}
-use Rattle.mount_model.specs.ScriptText.{Asked, BadLine, is_passed, asked_of, with_line, script_from}
+use Rattle.mp_script.specs.ScriptText.{Asked, BadLine, is_passed, asked_of, with_line, script_from}
 use Rattle.mp_script.specs.Reads.{put_before, AddsLine}
 
 pub put_before-none : (read : Result (List Line) BadLine) → put_before [] read ≡ read

@@ -6,8 +6,8 @@ use Rattle.std.proofs.lemmas.Bool.{ne_eqb, lt-ltb, false_from_ne_true}
 use Rattle.std.proofs.lemmas.List.{take_rest, take-append-drop, length-take, get_or-take, get_or_default}
 use Rattle.std.proofs.lemmas.List.Folds.{list_any_none}
 use Rattle.memchr.specs.Find.{OccursAt}
-use Rattle.mount_model.specs.ScriptText.{lines_of}
-use Rattle.mount_model.specs.ScriptText.{words_of}
+use Rattle.mp_script.specs.ScriptText.{lines_of}
+use Rattle.mp_script.specs.ScriptText.{words_of}
 use Rattle.mp_script.specs.Words.{has, parts_of, has_empty}
 
 pub not_found : (separator : ℕ) (text : List ℕ) → ((k : ℕ) → 0 ≤ k → k < length text → eqb (get_or text k 0) separator ≡ true → ⊥) → has separator text ≡ false

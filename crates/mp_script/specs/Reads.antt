@@ -1,12 +1,12 @@
 -- What reading a script returns.
 use Rattle.std.specs.Prelude.{◌≡◌, ℕ, ◌+◌, ◌<◌, ◌≤◌, List, ◌∷◌, ◌++◌, length, Result, Ok, Err}
 use Rattle.std.specs.Global.{Vec}
-use Rattle.mount_model.specs.declared.fault.ScriptCause.{ScriptCause}
-use Rattle.mount_model.specs.declared.fault.What.TheVariants.{Bytes, Lines, Reads, Data}
+use Rattle.mp_script.specs.declared.cause.ScriptCause.{ScriptCause}
+use Rattle.mp_script.specs.declared.cause.What.TheVariants.{Bytes, Lines, Reads, Data}
 use Rattle.mount_model.specs.declared.request.Request.{Request}
 use Rattle.mount_model.specs.declared.request.Line.{Line}
-use Rattle.mount_model.specs.ScriptText as script
-use Rattle.mount_model.specs.ScriptText.{Asked, BadLine, max_script_bytes, script_from, script_of}
+use Rattle.mp_script.specs.ScriptText as script
+use Rattle.mp_script.specs.ScriptText.{Asked, BadLine, max_script_bytes, script_from, script_of}
 use Rattle.mp_script.specs.declared.fault.Fault.{Fault}
 use Rattle.mp_script.specs.declared.fault.Fault.TheVariants as fault
 use Rattle.mp_script.specs.declared.fault.ScriptError.{ScriptError}

@@ -1,10 +1,10 @@
 -- Words and verbs.
 use Rattle.std.specs.Prelude.{ℕ, List, Bool, ◌++◌, ◌&&◌, ◌==◌, nat_le, length, Result, Ok, Err}
 use Rattle.std.specs.List.{list_any, slice_split}
-use Rattle.mount_model.specs.declared.fault.ScriptCause.{ScriptCause}
+use Rattle.mp_script.specs.declared.cause.ScriptCause.{ScriptCause}
 use Rattle.mount_model.specs.declared.request.Request.{Request}
 use Rattle.mount_model.specs.declared.request.Request.TheVariants as request
-use Rattle.mount_model.specs.ScriptText.{words_of, is_number, number_of, await_of, put_of, delete_of, open_of, read_of, write_of, handle_only, path_only}
+use Rattle.mp_script.specs.ScriptText.{words_of, is_number, number_of, await_of, put_of, delete_of, open_of, read_of, write_of, handle_only, path_only}
 use Rattle.mp_script.specs.declared.request.Access.{Access}
 use Rattle.mp_script.specs.declared.request.Access.TheVariants as access
 use Rattle.mp_script.specs.declared.request.Verb.{Verb}

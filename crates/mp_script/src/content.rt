@@ -1,15 +1,15 @@
 ghost use Rattle.std.specs.Prelude.{◌≡◌};
 ghost use Rattle.hex.specs.Hex.{decode_of};
-ghost use Rattle.mount_model.specs.ScriptText.{literal_of, hex_of, pattern_of, content_of};
+ghost use Rattle.mp_script.specs.ScriptText.{literal_of, hex_of, pattern_of, content_of};
 ghost use Rattle.mp_script.specs.Reads.{Gives};
 ghost use Rattle.mp_script.specs.Words.{parts_of};
 
+use crate::cause::ScriptCause;
 use crate::cut::two_parts;
 use crate::escape::escaped_bytes;
 use crate::fault::Fault;
 use crate::word::{MAX_NUMBER, number_up_to};
 use hex::FromHexError;
-use mount_model::ScriptCause;
 use mp_types::{Data, Items};
 use std::alloc::Global;
 

@@ -1,15 +1,15 @@
 ghost use Rattle.std.specs.Prelude.{◌≡◌, ◌<◌, ◌++◌, ◌&&◌, length, true, false, Err, IfOk, MatchOption, MatchResult, string_bytes};
 ghost use Rattle.std.specs.List.{list_all};
 ghost use Rattle.hex.specs.Hex.{is_hex_digit};
-ghost use Rattle.mount_model.specs.ScriptText as script;
-ghost use Rattle.mount_model.specs.ScriptText.{onto, spelled, text_of};
+ghost use Rattle.mp_script.specs.ScriptText as script;
+ghost use Rattle.mp_script.specs.ScriptText.{onto, spelled, text_of};
 ghost use Rattle.mp_script.specs.Reads.{Gives};
 ghost use Rattle.mp_script.specs.Words.{has, put_in_front};
 
+use crate::cause::ScriptCause;
 use crate::fault::Fault;
 use hex::FromHex;
 use memchr::memchr;
-use mount_model::ScriptCause;
 use std::alloc::Global;
 
 fn stands_for_itself(byte: u8) -> bool

@@ -2,7 +2,8 @@ ghost use Rattle.std.specs.Prelude.{◌≡◌};
 ghost use Rattle.mp_script.specs.declared.fault.Fault.TheVariants as fault;
 ghost use Rattle.mp_script.specs.declared.fault.ScriptError.TheVariants as script_error;
 
-use mount_model::{Line, ScriptCause, What};
+use crate::cause::{ScriptCause, What};
+use mount_model::Line;
 use std::alloc::{AllocError, AllocFailed};
 
 /// Why bytes were not read as a script.

@@ -1,14 +1,15 @@
 ghost use Rattle.std.specs.Prelude.{◌≡◌, List, ℕ, [], Ok, Err, MatchResult};
-ghost use Rattle.mount_model.specs.ScriptText as script;
-ghost use Rattle.mount_model.specs.ScriptText.{words_of, change_of, asked_by_process, request_of, put_of, delete_of, open_of, read_of, write_of, handle_only, path_only, asked_of};
+ghost use Rattle.mp_script.specs.ScriptText as script;
+ghost use Rattle.mp_script.specs.ScriptText.{words_of, change_of, asked_by_process, request_of, put_of, delete_of, open_of, read_of, write_of, handle_only, path_only, asked_of};
 ghost use Rattle.mp_script.specs.Reads.{Gives, asked};
 ghost use Rattle.mp_script.specs.Words.{opened, verb_request};
 
+use crate::cause::ScriptCause;
 use crate::content::content;
 use crate::cut::{cut, has_empty_word, one_part, three_parts, two_parts};
 use crate::fault::Fault;
 use crate::word;
-use mount_model::{Request, ScriptCause};
+use mount_model::Request;
 use mp_types::Text;
 use std::alloc::Global;
 

@@ -1,12 +1,13 @@
 ghost use Rattle.std.specs.Prelude.{◌≡◌, ◌-◌, ◌^◌, ◌<◌, ◌≤◌, ◌∷◌, length, min, nat_lt, IfOk};
 ghost use Rattle.mount_model.specs.Run.{AreRising};
-ghost use Rattle.mount_model.specs.ScriptText.{max_script_bytes, max_lines, lines_of, script_from, count_in, given_in, bytes_together};
+ghost use Rattle.mp_script.specs.ScriptText.{max_script_bytes, max_lines, lines_of, script_from, count_in, given_in, bytes_together};
 ghost use Rattle.mp_script.specs.Reads.{ReadsScript, ReadsLines, AddsLine};
 
+use crate::cause::What;
 use crate::cut::{Parted, cut};
 use crate::fault::{Fault, ScriptError};
 use crate::request::asked;
-use mount_model::{Line, Request, Script, What};
+use mount_model::{Line, Request, Script};
 use mp_types::Items;
 use std::alloc::Global;
 

@@ -1,12 +1,12 @@
 ghost use Rattle.std.specs.Prelude.{◌≡◌, ◌-◌, ◌^◌, ◌<◌, ◌≤◌, min, true, false, IfSome, MatchOption};
 ghost use Rattle.std.specs.List.{list_all};
-ghost use Rattle.mount_model.specs.ScriptText.{is_digit, is_number, number_of, actor_of, handle_word, number_word, key_of, text_of};
+ghost use Rattle.mp_script.specs.ScriptText.{is_digit, is_number, number_of, actor_of, handle_word, number_word, key_of, text_of};
 ghost use Rattle.mp_script.specs.Reads.{Gives};
 ghost use Rattle.mp_script.specs.Words.{is_number_up_to};
 
+use crate::cause::ScriptCause;
 use crate::escape;
 use crate::fault::Fault;
-use mount_model::ScriptCause;
 use mp_types::{Key, KeyFault, Text};
 use std::alloc::Global;
 

@@ -1,10 +1,10 @@
 use crate::row::Row;
 use itoa::Buffer;
 use mount_core::Core;
-use mount_model::{Record, ScriptCause, What};
+use mount_model::Record;
 use mp_io::MemSink;
 use mp_record::{PrintFault, print_record};
-use mp_script::ScriptError;
+use mp_script::{ScriptCause, ScriptError, What};
 use std::alloc::{AllocError, Global};
 
 // A sink has room for so many bytes, and takes so many a write.

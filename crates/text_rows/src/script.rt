@@ -1,7 +1,7 @@
 use crate::request::tell_line;
 use crate::tell::{tell_counted, tell_word};
-use mount_model::{Line, ScriptCause, What};
-use mp_script::{ScriptError, read_script};
+use mount_model::Line;
+use mp_script::{ScriptCause, ScriptError, What, read_script};
 use std::alloc::Global;
 
 fn cause_name(cause: ScriptCause) -> &'static str {

@@ -1,5 +1,5 @@
 use Rattle.std.proofs.Common.{◌≡◌, ◌++◌, flat_map, take}
-use Rattle.mount_model.specs.RecordText.{entry_text}
+use Rattle.mp_record.specs.RecordText.{entry_text}
 use Rattle.mp_record.proofs.entry_text.push_each_entry.Given as goal
 
 abbrev pub invariant-loop-entry : goal.invariant-loop-entry

@@ -1,5 +1,5 @@
 use Rattle.std.proofs.Common.{◌≡◌, ◌++◌, flat_map, take}
-use Rattle.mount_model.specs.RecordText.{escaped_byte}
+use Rattle.mp_record.specs.RecordText.{escaped_byte}
 use Rattle.mp_record.proofs.escape.push_escaped_bytes.Given as goal
 
 abbrev pub invariant-loop-byte : goal.invariant-loop-byte

@@ -1,5 +1,5 @@
 use Rattle.std.proofs.Common.{◌≡◌, ◌++◌, flat_map, take}
-use Rattle.mount_model.specs.RecordText.{item_text}
+use Rattle.mp_record.specs.RecordText.{item_text}
 use Rattle.mp_record.proofs.item_text.push_page_items.Given as goal
 
 abbrev pub invariant-loop-item : goal.invariant-loop-item

@@ -1,6 +1,6 @@
 use Rattle.std.proofs.Common.{◌++◌, ap}
 use Rattle.mount_model.specs.Step.{steps_of}
-use Rattle.mount_model.specs.RecordText.{record_text}
+use Rattle.mp_record.specs.RecordText.{record_text}
 use Rattle.mp_record.proofs.Appends.{AppendsFront-sent}
 use Rattle.mp_record.proofs.print.print_record.Goals as goal
 

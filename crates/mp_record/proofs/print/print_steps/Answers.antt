@@ -1,6 +1,6 @@
 use Rattle.std.proofs.Common.{◌++◌, refl, arith}
 use Rattle.mount_model.specs.Step.{steps_of}
-use Rattle.mount_model.specs.RecordText.{record_text}
+use Rattle.mp_record.specs.RecordText.{record_text}
 use Rattle.mp_record.specs.ItemText.{items_text}
 use Rattle.mp_record.proofs.Appends.{AppendsBut-then, AppendsFront-then}
 use Rattle.mp_record.proofs.RecordText.{row_more, step_more}

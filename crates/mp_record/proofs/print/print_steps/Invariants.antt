@@ -1,6 +1,6 @@
 use Rattle.std.proofs.Common.{◌≡◌, ◌≤◌, ◌++◌, ℕ, List, length}
 use Rattle.mount_model.specs.Step.{steps_of, IsRow}
-use Rattle.mount_model.specs.RecordText.{record_text}
+use Rattle.mp_record.specs.RecordText.{record_text}
 use Rattle.mp_record.specs.Appends.{AppendsBut}
 use Rattle.mp_record.proofs.print.print_steps.Given as goal
 

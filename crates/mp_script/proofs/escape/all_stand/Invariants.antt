@@ -1,6 +1,6 @@
 use Rattle.std.proofs.Common.{◌≡◌, take}
 use Rattle.std.specs.List.{list_all}
-use Rattle.mount_model.specs.ScriptText as script
+use Rattle.mp_script.specs.ScriptText as script
 use Rattle.mp_script.proofs.escape.all_stand.Given as goal
 
 abbrev pub invariant-loop-byte : goal.invariant-loop-byte

@@ -1,5 +1,5 @@
 use Rattle.std.proofs.Common.{◌≡◌, length}
-use Rattle.mount_model.specs.ScriptText.{unescaped}
+use Rattle.mp_script.specs.ScriptText.{unescaped}
 use Rattle.mp_script.specs.Words.{put_in_front}
 use Rattle.mp_script.proofs.escape.push_unescaped.Given as goal
 

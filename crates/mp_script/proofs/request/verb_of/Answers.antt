@@ -1,5 +1,5 @@
 use Rattle.std.proofs.Common.{rules, ◌≡◌, ◌<◌, false, codes, arith}
-use Rattle.mount_model.specs.ScriptText.{is_word}
+use Rattle.mp_script.specs.ScriptText.{is_word}
 use Rattle.mp_script.proofs.Asking.{others_ask, process_asks}
 use Rattle.mp_script.proofs.request.verb_of.Goals as goal
 

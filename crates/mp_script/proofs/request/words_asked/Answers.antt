@@ -1,6 +1,6 @@
 use Rattle.std.proofs.Common.{[]}
 use Rattle.std.proofs.lemmas.Result.{err_from_is_err_and}
-use Rattle.mount_model.specs.ScriptText.{words_of}
+use Rattle.mp_script.specs.ScriptText.{words_of}
 use Rattle.mp_script.proofs.Asking.{actor_fails, no_verb, request_fails, is_asked}
 use Rattle.mp_script.proofs.Pieces.{split_one, split_parts}
 use Rattle.mp_script.proofs.request.words_asked.Goals as goal

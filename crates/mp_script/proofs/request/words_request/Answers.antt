@@ -1,6 +1,6 @@
 use Rattle.std.proofs.Common.{[], sym, ◌∙◌}
 use Rattle.std.proofs.lemmas.Result.{err_from_is_err_and}
-use Rattle.mount_model.specs.ScriptText.{words_of}
+use Rattle.mp_script.specs.ScriptText.{words_of}
 use Rattle.mp_script.proofs.Asking.{verb_reads}
 use Rattle.mp_script.proofs.Pieces.{split_one, split_parts}
 use Rattle.mp_script.proofs.request.words_request.Goals as goal

@@ -1,5 +1,5 @@
 use Rattle.std.proofs.Common.{◌≡◌, length, nat_lt}
-use Rattle.mount_model.specs.ScriptText.{max_lines, lines_of}
+use Rattle.mp_script.specs.ScriptText.{max_lines, lines_of}
 use Rattle.mp_script.proofs.script.has_too_many_lines.Given as goal
 
 abbrev pub invariant-loop-rest : goal.invariant-loop-rest

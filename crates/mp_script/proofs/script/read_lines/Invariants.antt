@@ -1,5 +1,5 @@
 use Rattle.std.proofs.Common.{◌≡◌, ◌+◌, ◌≤◌, length}
-use Rattle.mount_model.specs.ScriptText.{lines_of, script_from}
+use Rattle.mp_script.specs.ScriptText.{lines_of, script_from}
 use Rattle.mp_script.specs.Reads.{put_before}
 use Rattle.mp_script.proofs.script.read_lines.Given as goal
 

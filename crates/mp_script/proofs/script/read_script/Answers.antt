@@ -1,5 +1,5 @@
 use Rattle.std.proofs.Common.{lit<}
-use Rattle.mount_model.specs.ScriptText.{lines_of}
+use Rattle.mp_script.specs.ScriptText.{lines_of}
 use Rattle.mp_script.proofs.Lines.{rises}
 use Rattle.mp_script.proofs.script.read_script.Goals as goal
 

@@ -1,6 +1,6 @@
 use Rattle.std.proofs.Common.{◌≡◌, ◌≤◌, min, drop}
 use Rattle.std.specs.List.{fold}
-use Rattle.mount_model.specs.ScriptText.{number_of}
+use Rattle.mp_script.specs.ScriptText.{number_of}
 use Rattle.mp_script.proofs.Numbers.{more}
 use Rattle.mp_script.proofs.word.capped_number.Given as goal
 

@@ -3,7 +3,7 @@ use Rattle.std.specs.Prelude.{min}
 use Rattle.std.proofs.lemmas.List.{drop_all}
 use Rattle.mount_model.specs.declared.request.Line.{Line}
 use Rattle.mount_model.specs.declared.request.Request.{Request}
-use Rattle.mount_model.specs.ScriptText.{bytes_together, count_in, given_in}
+use Rattle.mp_script.specs.ScriptText.{bytes_together, count_in, given_in}
 use Rattle.mp_script.proofs.script.Moved.together.Goals as goal
 use Rattle.mp_script.proofs.script.Moved.together.Invariants.{IsSum}
 

@@ -2,7 +2,7 @@ use Rattle.std.proofs.Common.{◌≡◌, ℕ, ◌+◌, ◌-◌, ◌^◌, ◌≤�
 use Rattle.std.specs.Prelude.{min}
 use Rattle.mount_model.specs.declared.request.Line.{Line}
 use Rattle.mount_model.specs.declared.request.Request.{Request}
-use Rattle.mount_model.specs.ScriptText.{bytes_together, count_in, given_in}
+use Rattle.mp_script.specs.ScriptText.{bytes_together, count_in, given_in}
 use Rattle.mp_script.proofs.script.Moved.together.Given as goal
 
 -- a sum with that of the lines that are left

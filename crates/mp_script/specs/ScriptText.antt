@@ -10,10 +10,10 @@ use Rattle.mp_types.specs.declared.octets.Data.TheVariants.{Literal, Pattern}
 use Rattle.mp_types.specs.Content.{bytes_of}
 use Rattle.mp_types.specs.Key.{max_key_length}
 use Rattle.mp_types.specs.Plain.{is_plain}
-use Rattle.mount_model.specs.declared.fault.ScriptCause.{ScriptCause}
-use Rattle.mount_model.specs.declared.fault.ScriptCause.TheVariants as cause
-use Rattle.mount_model.specs.declared.fault.What.{What}
-use Rattle.mount_model.specs.declared.fault.What.TheVariants.{Lines, Reads, Data as Stored}
+use Rattle.mp_script.specs.declared.cause.ScriptCause.{ScriptCause}
+use Rattle.mp_script.specs.declared.cause.ScriptCause.TheVariants as cause
+use Rattle.mp_script.specs.declared.cause.What.{What}
+use Rattle.mp_script.specs.declared.cause.What.TheVariants.{Lines, Reads, Data as Stored}
 use Rattle.mount_model.specs.declared.request.Request.{Request}
 use Rattle.mount_model.specs.declared.request.Request.TheVariants as request
 use Rattle.mount_model.specs.declared.request.Request.TheVariants.{Put, Await, Stat, OpenRead, OpenWrite, OpenTruncate, Read, Write, Sync, Close, Delete, MakeDir, RemoveDir, Unlink}
