@@ -6,7 +6,7 @@ use Rattle.mp_types.specs.declared.errno.Errno.TheVariants.{Eperm, Eio, Ebadf, E
 use Rattle.mp_types.specs.declared.path.PathFault.{PathFault}
 use Rattle.mp_types.specs.declared.path.PathFault.TheVariants as fault
 use Rattle.mp_types.specs.Content.{bytes_of}
-use Rattle.mp_types.specs.Path.{path_of, joined}
+use Rattle.mp_types.specs.Path.{joined}
 use Rattle.mp_rules.specs.declared.entry.Entry.{Entry}
 use Rattle.mp_rules.specs.declared.entry.Entry.TheVariants.{RemoteDir, LocalDir, LocalFile, File, Nothing}
 use Rattle.mp_rules.specs.Walk.{Decision, Need, Is, Refused, fact_in, walk}
@@ -302,16 +302,16 @@ close_next line (Some (Writing writer)) = Ends (waited_for (waiter.Close line) (
 abbrev pub next_of : View → Request → Heard → Next
 next_of view (Put key content) heard = put_next key (bytes_of content) heard.answers
 next_of view Await heard = Waits
-next_of view (Stat path) heard = stat_next view (path_of path) heard
-next_of view (request.List path) heard = list_next view (path_of path) heard
-next_of view (OpenRead name path) heard = open_next open_at view view.handle (path_of path) heard
-next_of view (OpenWrite name path) heard = open_next (create_at false) view view.handle (path_of path) heard
-next_of view (OpenTruncate name path) heard = open_next (create_at view.options.allow_overwrite) view view.handle (path_of path) heard
+next_of view (Stat path) heard = stat_next view path heard
+next_of view (request.List path) heard = list_next view path heard
+next_of view (OpenRead name path) heard = open_next open_at view view.handle path heard
+next_of view (OpenWrite name path) heard = open_next (create_at false) view view.handle path heard
+next_of view (OpenTruncate name path) heard = open_next (create_at view.options.allow_overwrite) view view.handle path heard
 next_of view (Read name offset count) heard = read_next view.handle offset count heard.answers
 next_of view (Write name offset content) heard = write_next view.handle offset (bytes_of content)
 next_of view (Sync name) heard = sync_next view.line view.handle
 next_of view (Close name) heard = close_next view.line view.handle
 next_of view (Delete key) heard = delete_next key heard.answers
-next_of view (MakeDir path) heard = make_next view (path_of path) heard
-next_of view (RemoveDir path) heard = remove_next view (path_of path) heard
-next_of view (Unlink path) heard = unlink_next view (path_of path) heard
+next_of view (MakeDir path) heard = make_next view path heard
+next_of view (RemoveDir path) heard = remove_next view path heard
+next_of view (Unlink path) heard = unlink_next view path heard

@@ -11,5 +11,5 @@ mod standing;
 pub use event::{Answered, Ask, AskedCall, Event, Owner};
 pub use handle::{Handle, Version, Waiter, Writer};
 pub use record::{Item, Record};
-pub use request::{Line, Reply, Request, Script};
+pub use request::{AskedPath, Line, Reply, Request, Script};
 pub use standing::{Heard, Phase, Standing, Told, errno_of, told_by};

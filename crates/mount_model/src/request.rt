@@ -1,6 +1,9 @@
 use bytes::Bytes;
 use mp_rules::DirEntry;
-use mp_types::{Data, ETag, Errno, Items, Key, Text};
+use mp_types::{Data, ETag, Errno, FilePath, Items, Key, PathFault};
+
+/// The path that a line gives, or why its text is no path.
+pub type AskedPath = Result<FilePath, PathFault>;
 
 /// What one line of a script asks for.
 #[derive(Debug, Drop)]
@@ -14,26 +17,26 @@ pub enum Request {
     Await,
     /// Asks what stands at a path.
     Stat {
-        path: Text,
+        path: AskedPath,
     },
     /// Asks what stands in the directory at a path.
     List {
-        path: Text,
+        path: AskedPath,
     },
     /// Opens the object at a path for reading, under a name of the process's own.
     OpenRead {
         handle: u16,
-        path: Text,
+        path: AskedPath,
     },
     /// Opens a new file at a path for writing, where nothing stands.
     OpenWrite {
         handle: u16,
-        path: Text,
+        path: AskedPath,
     },
     /// Opens a new file at a path for writing, in the place of an object too, where the options allow it.
     OpenTruncate {
         handle: u16,
-        path: Text,
+        path: AskedPath,
     },
     /// Reads at most `count` bytes from place `offset` on.
     Read {
@@ -61,15 +64,15 @@ pub enum Request {
     },
     /// Makes a directory of the mount's own.
     MakeDir {
-        path: Text,
+        path: AskedPath,
     },
     /// Removes a directory of the mount's own.
     RemoveDir {
-        path: Text,
+        path: AskedPath,
     },
     /// Deletes the file at a path.
     Unlink {
-        path: Text,
+        path: AskedPath,
     },
 }
 

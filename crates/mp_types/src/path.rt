@@ -142,6 +142,7 @@ impl FilePath {
     /// The names with a `/` between each two, as keys have them: what stands behind the path's first `/`.
     pub fn as_key(&self) -> &str
         ensures text { result.now ≡ joined self.now }
+        ensures names { names_in result.now ≡ self.now }
         ensures short { length result.now ≤ max_key_length }
         ensures root { (length result.now == 0) ≡ (length self.now == 0) }
         ensures valid { are_names self.now ≡ true }
