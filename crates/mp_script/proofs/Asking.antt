@@ -3,13 +3,19 @@ use Rattle.std.proofs.Common.{◌≡◌, ℕ, ◌<◌, false, List, [], ◌∷�
 use Rattle.std.proofs.lemmas.Bool.{ne_eqb}
 use Rattle.mp_script.specs.declared.cause.ScriptCause.{ScriptCause}
 use Rattle.mp_script.specs.declared.cause.ScriptCause.TheVariants as cause
+use Rattle.mp_types.specs.declared.path.PathFault.{PathFault}
+use Rattle.mp_types.specs.Path.{path_of}
 use Rattle.mount_model.specs.declared.request.Request.{Request}
-use Rattle.mp_script.specs.ScriptText.{is_word, change_of, asked_by_process, await_of, actor_of, request_of, words_request, words_asked}
+use Rattle.mp_script.specs.ScriptText.{is_word, change_of, asked_by_process, await_of, actor_of, path_word, request_of, text_of, words_request, words_asked}
 use Rattle.mp_script.specs.declared.fault.Fault.{Fault}
 use Rattle.mp_script.specs.declared.fault.Fault.TheVariants as fault
 use Rattle.mp_script.specs.Reads.{Fails, asked}
 use Rattle.mp_script.specs.ScriptText.{words_of}
 use Rattle.mp_script.proofs.Pieces.{has_first}
+
+-- a path's fault is told by its reply alone
+pub path_read : (word text : List ℕ) (asked : Result (List (List ℕ)) PathFault) → text_of word ≡ Ok text → path_of text ≡ asked → path_word word ≡ Ok asked
+path_read word text asked e is = rw (e, is) refl
 
 pub awaits_none : (text : List ℕ) → await_of (words_of text) ≡ Err cause.Words
 awaits_none text = rw (has_first 32 text).is_parted refl

@@ -8,7 +8,9 @@ use Rattle.hex.specs.declared.error.FromHexError.{FromHexError}
 use Rattle.mp_types.specs.declared.octets.Data.{Data}
 use Rattle.mp_types.specs.declared.octets.Data.TheVariants.{Literal, Pattern}
 use Rattle.mp_types.specs.Content.{bytes_of}
+use Rattle.mp_types.specs.declared.path.PathFault.{PathFault}
 use Rattle.mp_types.specs.Key.{max_key_length}
+use Rattle.mp_types.specs.Path.{path_of}
 use Rattle.mp_types.specs.Plain.{is_plain}
 use Rattle.mp_script.specs.declared.cause.ScriptCause.{ScriptCause}
 use Rattle.mp_script.specs.declared.cause.ScriptCause.TheVariants as cause
@@ -110,6 +112,12 @@ text_of word = do
   text ← escaped_bytes word
   if is_utf8 text then Ok text else Err cause.Utf8
 
+-- a path, or why the text is none: only the reply tells that fault
+abbrev pub path_word : List ℕ → Result (Result (List (List ℕ)) PathFault) ScriptCause
+path_word word = do
+  text ← text_of word
+  Ok (path_of text)
+
 abbrev pub key_of : List ℕ → Result (List ℕ) ScriptCause
 key_of word = do
   text ← text_of word
@@ -150,10 +158,10 @@ put_of (key ∷ content ∷ []) = do
 put_of words = Err cause.Words
 
 -- the three kinds of open have the same words
-abbrev pub open_of : (ℕ → List ℕ → Request) → List (List ℕ) → Result Request ScriptCause
+abbrev pub open_of : (ℕ → Result (List (List ℕ)) PathFault → Request) → List (List ℕ) → Result Request ScriptCause
 open_of opens (handle ∷ path ∷ []) = do
   h ← handle_word handle
-  p ← text_of path
+  p ← path_word path
   Ok (opens h p)
 open_of opens words = Err cause.Words
 
@@ -187,9 +195,9 @@ delete_of (key ∷ []) = do
 delete_of words = Err cause.Words
 
 -- a request that names a path alone
-abbrev pub path_only : (List ℕ → Request) → List (List ℕ) → Result Request ScriptCause
+abbrev pub path_only : (Result (List (List ℕ)) PathFault → Request) → List (List ℕ) → Result Request ScriptCause
 path_only asks (path ∷ []) = do
-  p ← text_of path
+  p ← path_word path
   Ok (asks p)
 path_only asks words = Err cause.Words
 

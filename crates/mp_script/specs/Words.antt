@@ -2,6 +2,7 @@
 use Rattle.std.specs.Prelude.{ℕ, List, Bool, ◌++◌, ◌&&◌, ◌==◌, nat_le, length, Result, Ok, Err}
 use Rattle.std.specs.List.{list_any, slice_split}
 use Rattle.mp_script.specs.declared.cause.ScriptCause.{ScriptCause}
+use Rattle.mp_types.specs.declared.path.PathFault.{PathFault}
 use Rattle.mount_model.specs.declared.request.Request.{Request}
 use Rattle.mount_model.specs.declared.request.Request.TheVariants as request
 use Rattle.mp_script.specs.ScriptText.{words_of, is_number, number_of, await_of, put_of, delete_of, open_of, read_of, write_of, handle_only, path_only}
@@ -30,7 +31,7 @@ put_in_front front (Ok bytes) = Ok (front ++ bytes)
 put_in_front front (Err why) = Err why
 
 -- the open of a file, by how it is opened
-abbrev pub opened : Access → ℕ → List ℕ → Request
+abbrev pub opened : Access → ℕ → Result (List (List ℕ)) PathFault → Request
 opened access.Read = request.OpenRead
 opened access.Write = request.OpenWrite
 opened access.Truncate = request.OpenTruncate

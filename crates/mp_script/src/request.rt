@@ -1,4 +1,5 @@
-ghost use Rattle.std.specs.Prelude.{◌≡◌, List, ℕ, [], Ok, Err, MatchResult};
+ghost use Rattle.std.specs.Prelude.{◌≡◌, List, ℕ, [], Result, Ok, Err, MatchResult};
+ghost use Rattle.mp_types.specs.declared.path.PathFault.{PathFault};
 ghost use Rattle.mp_script.specs.ScriptText as script;
 ghost use Rattle.mp_script.specs.ScriptText.{words_of, change_of, asked_by_process, request_of, put_of, delete_of, open_of, read_of, write_of, handle_only, path_only, asked_of};
 ghost use Rattle.mp_script.specs.Reads.{Gives, asked};
@@ -9,8 +10,7 @@ use crate::content::content;
 use crate::cut::{cut, has_empty_word, one_part, three_parts, two_parts};
 use crate::fault::Fault;
 use crate::word;
-use mount_model::Request;
-use mp_types::Text;
+use mount_model::{AskedPath, Request};
 use std::alloc::Global;
 
 /// How a file is opened.
@@ -146,8 +146,8 @@ fn delete(alloc: Global, text: &[u8]) -> Result<Request, Fault>
 }
 
 // The path of a request that has no other words.
-fn only_path(alloc: Global, text: &[u8]) -> Result<Text, Fault>
-    ensures { (asks : List ℕ → Request) → Gives asks result (path_only asks (words_of text.now)) }
+fn only_path(alloc: Global, text: &[u8]) -> Result<AskedPath, Fault>
+    ensures { (asks : Result (List (List ℕ)) PathFault → Request) → Gives asks result (path_only asks (words_of text.now)) }
 {
     match one_part(text, b' ') {
         None => Err(Fault::Cause(ScriptCause::Words)),

@@ -1,13 +1,14 @@
 ghost use Rattle.std.specs.Prelude.{◌≡◌, ◌-◌, ◌^◌, ◌<◌, ◌≤◌, min, true, false, IfSome, MatchOption};
 ghost use Rattle.std.specs.List.{list_all};
-ghost use Rattle.mp_script.specs.ScriptText.{is_digit, is_number, number_of, actor_of, handle_word, number_word, key_of, text_of};
+ghost use Rattle.mp_script.specs.ScriptText.{is_digit, is_number, number_of, actor_of, handle_word, number_word, key_of, path_word};
 ghost use Rattle.mp_script.specs.Reads.{Gives};
 ghost use Rattle.mp_script.specs.Words.{is_number_up_to};
 
 use crate::cause::ScriptCause;
 use crate::escape;
 use crate::fault::Fault;
-use mp_types::{Key, KeyFault, Text};
+use mount_model::AskedPath;
+use mp_types::{FilePath, Key, KeyFault, PathFault};
 use std::alloc::Global;
 
 fn is_decimal_digit(byte: u8) -> bool
@@ -103,9 +104,20 @@ pub fn key(alloc: Global, word: &[u8]) -> Result<Key, Fault>
     }
 }
 
-/// The text of a path that an escaped word stands for. Whether it is a path is for the request to say.
-pub fn path(alloc: Global, word: &[u8]) -> Result<Text, Fault>
-    ensures { Gives (λ path. path) result (text_of word.now) }
+/// The path that an escaped word stands for, or why its text is none.
+pub fn path(alloc: Global, word: &[u8]) -> Result<AskedPath, Fault>
+    ensures { Gives (λ path. path) result (path_word word.now) }
 {
-    Ok(Text::from_string(escape::text(alloc, word)?))
+    let text = escape::text(alloc, word)?;
+    let parsed = FilePath::parse(alloc, text.as_str());
+    drop(text);
+    match parsed {
+        Ok(path) => Ok(Ok(path)),
+        Err(why) => match why {
+            PathFault::Memory => Err(Fault::Memory),
+            PathFault::Empty => Ok(Err(PathFault::Empty)),
+            PathFault::TooLong => Ok(Err(PathFault::TooLong)),
+            PathFault::BadName(place) => Ok(Err(PathFault::BadName(place))),
+        },
+    }
 }
