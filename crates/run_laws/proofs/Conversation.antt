@@ -7,7 +7,7 @@ use Rattle.mp_types.specs.declared.errno.Errno.TheVariants.{Eperm, Eexist, Eisdi
 use Rattle.mp_types.specs.declared.path.PathFault.{PathFault}
 use Rattle.mp_types.specs.Content.{bytes_of}
 use Rattle.mp_types.specs.declared.octets.Data.{Data}
-use Rattle.mp_types.specs.Path.{path_of, joined}
+use Rattle.mp_types.specs.Path.{joined}
 use Rattle.mp_types.specs.HandleName.{max_handles}
 use Rattle.mp_types.specs.Options.{AreWithin}
 use Rattle.listing_rules.specs.Names.{listing_of, prefix_of}
@@ -265,12 +265,12 @@ page-falls : (names : List (List ℕ)) (facts : List Known) (answers : List Brie
 page-falls names facts [] answer few = omega arith
 page-falls names facts (first ∷ answers) answer few = let sum = length-append answers (answer ∷ []) in omega arith
 
-page-asked : (view : View) (path : List ℕ) (names : List (List ℕ)) (after : List ℕ) (facts : List Known) (answers : List Brief) → path_of path ≡ Ok names → length answers < max_pages → SpeaksWith view (request.List path) (list_left (Ok names)) (heard_of facts answers) (asks_page view (prefix_of names) after)
-page-asked view path names after facts answers fine few = record {
+page-asked : (view : View) (names : List (List ℕ)) (after : List ℕ) (facts : List Known) (answers : List Brief) → length answers < max_pages → SpeaksWith view (request.List (Ok names)) (list_left (Ok names)) (heard_of facts answers) (asks_page view (prefix_of names) after)
+page-asked view names after facts answers few = record {
   one = refl;
   falls = λ answer. page-falls names facts answers answer few;
   may = λ within. (within.page_low, within.page_high);
-  lists = record { path = path; lists = refl; names = names; fine = fine; prefix_is = refl };
+  lists = record { names = names; lists = refl; prefix_is = refl };
 }
 
 list-ends : (view : View) (request : Request) (left : Heard → ℕ) (first : Next) → ((facts : List Known) → SpeaksWith view request left (heard_of facts []) first) → EndsAt view request left (list_at first)
@@ -281,8 +281,8 @@ list-ends view request left first speaks facts (File etag size) = tt
 list-ends view request left first speaks facts Nothing = tt
 
 -- behind a page
-page-speaks : (view : View) (path : List ℕ) (names : List (List ℕ)) (facts : List Known) (answers : List Brief) (last : Page) → path_of path ≡ Ok names → SpeaksWith view (request.List path) (list_left (Ok names)) (heard_of facts answers) (behind_page view (prefix_of names) answers last)
-page-speaks view path names facts answers last fine = go last.more (nat_lt (length answers) max_pages) refl
+page-speaks : (view : View) (names : List (List ℕ)) (facts : List Known) (answers : List Brief) (last : Page) → SpeaksWith view (request.List (Ok names)) (list_left (Ok names)) (heard_of facts answers) (behind_page view (prefix_of names) answers last)
+page-speaks view names facts answers last = go last.more (nat_lt (length answers) max_pages) refl
   where
     next : Next
     next = asks_page view (prefix_of names) (last_text [] last.items)
@@ -290,28 +290,28 @@ page-speaks view path names facts answers last fine = go last.more (nat_lt (leng
     shown : Next
     shown = Lists (listing_of (prefix_of names) (items_of (pages_in answers)) view.names)
 
-    go : (more few : Bool) → nat_lt (length answers) max_pages ≡ few → SpeaksWith view (request.List path) (list_left (Ok names)) (heard_of facts answers) (if not more then shown else (if few then next else fails Eoverflow))
+    go : (more few : Bool) → nat_lt (length answers) max_pages ≡ few → SpeaksWith view (request.List (Ok names)) (list_left (Ok names)) (heard_of facts answers) (if not more then shown else (if few then next else fails Eoverflow))
     go false few is = tt
-    go true true is = page-asked view path names (last_text [] last.items) facts answers fine (ltb-true (length answers) max_pages is)
+    go true true is = page-asked view names (last_text [] last.items) facts answers (ltb-true (length answers) max_pages is)
     go true false is = tt
 
-answer-speaks : (view : View) (path : List ℕ) (names : List (List ℕ)) (facts : List Known) (answers : List Brief) (last : Brief) → path_of path ≡ Ok names → SpeaksWith view (request.List path) (list_left (Ok names)) (heard_of facts answers) (behind_answer view (prefix_of names) answers last)
-answer-speaks view path names facts answers (answer.Page page) fine = page-speaks view path names facts answers page fine
-answer-speaks view path names facts answers other fine = tt
+answer-speaks : (view : View) (names : List (List ℕ)) (facts : List Known) (answers : List Brief) (last : Brief) → SpeaksWith view (request.List (Ok names)) (list_left (Ok names)) (heard_of facts answers) (behind_answer view (prefix_of names) answers last)
+answer-speaks view names facts answers (answer.Page page) = page-speaks view names facts answers page
+answer-speaks view names facts answers other = tt
 
-list-speaks : (view : View) (path : List ℕ) (found : Result (List (List ℕ)) PathFault) (heard : Heard) → path_of path ≡ found → SpeaksWith view (request.List path) (list_left found) heard (list_next view found heard)
-list-speaks view path (Err why) heard is = tt
-list-speaks view path (Ok names) heard is = go heard.facts heard.answers
+list-speaks : (view : View) (path : Result (List (List ℕ)) PathFault) (heard : Heard) → SpeaksWith view (request.List path) (list_left path) heard (list_next view path heard)
+list-speaks view (Err why) heard = tt
+list-speaks view (Ok names) heard = go heard.facts heard.answers
   where
     first : Next
     first = asks_page view (prefix_of names) []
 
-    speaks_first : (facts : List Known) → SpeaksWith view (request.List path) (list_left (Ok names)) (heard_of facts []) first
-    speaks_first facts = page-asked view path names [] facts [] is (omega arith)
+    speaks_first : (facts : List Known) → SpeaksWith view (request.List (Ok names)) (list_left (Ok names)) (heard_of facts []) first
+    speaks_first facts = page-asked view names [] facts [] (omega arith)
 
-    go : (facts : List Known) (answers : List Brief) → SpeaksWith view (request.List path) (list_left (Ok names)) (heard_of facts answers) (list_next view (Ok names) (heard_of facts answers))
-    go facts [] = walk-speaks (request.List path) (list_left (Ok names)) view first (list_at first) names refl speaks_first (list-ends view (request.List path) (list_left (Ok names)) first speaks_first) (list-walk-falls names) facts
-    go facts (answer ∷ answers) = answer-speaks view path names facts (answer ∷ answers) (last_of answer answers) is
+    go : (facts : List Known) (answers : List Brief) → SpeaksWith view (request.List (Ok names)) (list_left (Ok names)) (heard_of facts answers) (list_next view (Ok names) (heard_of facts answers))
+    go facts [] = walk-speaks (request.List (Ok names)) (list_left (Ok names)) view first (list_at first) names refl speaks_first (list-ends view (request.List (Ok names)) (list_left (Ok names)) first speaks_first) (list-walk-falls names) facts
+    go facts (answer ∷ answers) = answer-speaks view names facts (answer ∷ answers) (last_of answer answers)
 
 -- a range has a byte
 pub range_some : (offset count size : ℕ) (range : Range) → range_in offset count size ≡ Some range → range.from < range.to
@@ -384,19 +384,19 @@ is-free view request name names free = record { name = name; names = names; free
 speaks : (view : View) (request : Request) (heard : Heard) → Speaks view request heard
 speaks view (Put key content) heard = OtherSpeaks (put-speaks view key content heard.facts heard.answers)
 speaks view Await heard = AwaitSpeaks refl refl
-speaks view (Stat path) heard = OtherSpeaks (stat-speaks (Stat path) view (path_of path) heard refl)
-speaks view (request.List path) heard = OtherSpeaks (list-speaks view path (path_of path) heard refl)
-speaks view (OpenRead name path) heard = OtherSpeaks (open-speaks open_at (OpenRead name path) view view.handle (path_of path) heard refl (λ free names. open-ends view (OpenRead name path) (path_left 0 (Ok names)) view.live (joined names) (is-free view (OpenRead name path) name refl free)))
-speaks view (OpenWrite name path) heard = OtherSpeaks (open-speaks (create_at false) (OpenWrite name path) view view.handle (path_of path) heard refl (λ free names. create-ends view (OpenWrite name path) (path_left 0 (Ok names)) false view.live (joined names) (is-free view (OpenWrite name path) name refl free) refl))
-speaks view (OpenTruncate name path) heard = OtherSpeaks (open-speaks (create_at view.options.allow_overwrite) (OpenTruncate name path) view view.handle (path_of path) heard refl (λ free names. create-ends view (OpenTruncate name path) (path_left 0 (Ok names)) view.options.allow_overwrite view.live (joined names) (is-free view (OpenTruncate name path) name refl free) refl))
+speaks view (Stat path) heard = OtherSpeaks (stat-speaks (Stat path) view path heard refl)
+speaks view (request.List path) heard = OtherSpeaks (list-speaks view path heard)
+speaks view (OpenRead name path) heard = OtherSpeaks (open-speaks open_at (OpenRead name path) view view.handle path heard refl (λ free names. open-ends view (OpenRead name path) (path_left 0 (Ok names)) view.live (joined names) (is-free view (OpenRead name path) name refl free)))
+speaks view (OpenWrite name path) heard = OtherSpeaks (open-speaks (create_at false) (OpenWrite name path) view view.handle path heard refl (λ free names. create-ends view (OpenWrite name path) (path_left 0 (Ok names)) false view.live (joined names) (is-free view (OpenWrite name path) name refl free) refl))
+speaks view (OpenTruncate name path) heard = OtherSpeaks (open-speaks (create_at view.options.allow_overwrite) (OpenTruncate name path) view view.handle path heard refl (λ free names. create-ends view (OpenTruncate name path) (path_left 0 (Ok names)) view.options.allow_overwrite view.live (joined names) (is-free view (OpenTruncate name path) name refl free) refl))
 speaks view (Read name offset count) heard = OtherSpeaks (read-speaks view name view.handle offset count heard)
 speaks view (Write name offset content) heard = OtherSpeaks (write-speaks view name offset content heard view.handle refl)
 speaks view (Sync name) heard = OtherSpeaks (sync-speaks view name heard view.handle refl)
 speaks view (Close name) heard = OtherSpeaks (close-speaks view name heard view.handle refl)
 speaks view (Delete key) heard = OtherSpeaks (delete-speaks view key heard.facts heard.answers)
-speaks view (MakeDir path) heard = OtherSpeaks (make-speaks (MakeDir path) view (path_of path) heard refl)
-speaks view (RemoveDir path) heard = OtherSpeaks (remove-speaks (RemoveDir path) view (path_of path) heard refl)
-speaks view (Unlink path) heard = OtherSpeaks (unlink-speaks (Unlink path) view (path_of path) heard refl)
+speaks view (MakeDir path) heard = OtherSpeaks (make-speaks (MakeDir path) view path heard refl)
+speaks view (RemoveDir path) heard = OtherSpeaks (remove-speaks (RemoveDir path) view path heard refl)
+speaks view (Unlink path) heard = OtherSpeaks (unlink-speaks (Unlink path) view path heard refl)
 
 pub only_await_waits : (view : View) (request : Request) (heard : Heard) → next_of view request heard ≡ Waits → request ≡ Await
 only_await_waits view request heard is = go (speaks view request heard)
@@ -497,23 +497,11 @@ read-reads view request heard called w read is live = absurd read
 
 -- how many calls there are to make from the first one on
 
-pub path_calls : (behind : ℕ) (path : Result (List (List ℕ)) PathFault) (names : List (List ℕ)) → path ≡ Ok names → path_left behind path nothing_heard ≤ 2 * length names + behind
-path_calls behind path names is =
-    let most = path-most (fact_in []) names in
-    let same : path_left behind path nothing_heard ≡ path_left behind (Ok names) nothing_heard = ap (λ (t : Result (List (List ℕ)) PathFault). path_left behind t nothing_heard) is in
-    omega arith
+pub path_calls : (behind : ℕ) (names : List (List ℕ)) → path_left behind (Ok names) nothing_heard ≤ 2 * length names + behind
+path_calls behind names = let most = path-most (fact_in []) names in omega arith
 
-pub walk_calls : (path : Result (List (List ℕ)) PathFault) (names : List (List ℕ)) → path ≡ Ok names → path_left 0 path nothing_heard ≤ 2 * length names
-walk_calls path names is = let most = path_calls 0 path names is in omega arith
+pub walk_calls : (names : List (List ℕ)) → path_left 0 (Ok names) nothing_heard ≤ 2 * length names
+walk_calls names = let most = path_calls 0 names in omega arith
 
-pub faulty_calls : (behind : ℕ) (path : Result (List (List ℕ)) PathFault) (why : PathFault) → path ≡ Err why → path_left behind path nothing_heard ≡ 0
-faulty_calls behind path why is = ap (λ (t : Result (List (List ℕ)) PathFault). path_left behind t nothing_heard) is
-
-pub list_calls : (path : Result (List (List ℕ)) PathFault) (names : List (List ℕ)) → path ≡ Ok names → list_left path nothing_heard ≤ 2 * length names + max_pages
-list_calls path names is =
-    let most = path-most (fact_in []) names in
-    let same : list_left path nothing_heard ≡ list_left (Ok names) nothing_heard = ap (λ (t : Result (List (List ℕ)) PathFault). list_left t nothing_heard) is in
-    omega arith
-
-pub faulty_list : (path : Result (List (List ℕ)) PathFault) (why : PathFault) → path ≡ Err why → list_left path nothing_heard ≡ 0
-faulty_list path why is = ap (λ (t : Result (List (List ℕ)) PathFault). list_left t nothing_heard) is
+pub list_calls : (names : List (List ℕ)) → list_left (Ok names) nothing_heard ≤ 2 * length names + max_pages
+list_calls names = let most = path-most (fact_in []) names in omega arith

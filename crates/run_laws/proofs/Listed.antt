@@ -2,7 +2,6 @@
 use Rattle.std.proofs.Common.{◌≡◌, ◌≢◌, ℕ, ◌<◌, List, [], ◌∷◌, ◌++◌, length, true, Some, Result, Ok, Err, refl, ap, ◌∙◌, sym, subst, subst₂, arith, length-append}
 use Rattle.mp_types.specs.declared.options.Opts.{Opts}
 use Rattle.mp_types.specs.Options.{AreWithin}
-use Rattle.mp_types.specs.Path.{path_of}
 use Rattle.mp_types.specs.declared.path.PathFault.{PathFault}
 use Rattle.mp_rules.specs.declared.facts.Known.{Known}
 use Rattle.bucket_model.specs.declared.call.Call.{Call}
@@ -77,7 +76,7 @@ line-listing state number job prefix after max alive faithful stands of_line liv
       begun = refl;
       listing = listing;
       pages = subst (λ (r : Request). HeardPages r due.heard.answers) listing.lists lists.2;
-      few = few-pages (path_of listing.path) due.heard.facts due.heard.answers Fault
+      few = few-pages (Ok listing.names) due.heard.facts due.heard.answers Fault
           (subst₂ (λ (r : Request) (c : Call). calls_left r (with_told (told_by (question_of c) Fault) due.heard) < calls_left r due.heard) listing.lists asks
           (faithful.falls number job stands of_line live standing due.heard Fault due.stands refl));
     }

@@ -1,7 +1,6 @@
 -- A line that lists and asks for one more call has heard nothing but pages.
 use Rattle.std.proofs.Common.{◌≡◌, ℕ, List, [], ◌∷◌, ◌++◌, Result, Ok, Err, refl, sym, ap, ◌∙◌, subst}
 use Rattle.mp_types.specs.declared.path.PathFault.{PathFault}
-use Rattle.mp_types.specs.Path.{path_of}
 use Rattle.mp_rules.specs.declared.facts.Known.{Known}
 use Rattle.listing_rules.specs.Names.{prefix_of}
 use Rattle.bucket_model.specs.declared.call.Call.{Call}
@@ -36,17 +35,17 @@ asks-behind : (view : View) (prefix : List ℕ) (answers : List Brief) (last : B
 asks-behind view prefix answers (answer.Page page) called asks = tt
 asks-behind view prefix answers other called asks = absurd (cc)
 
-pages-told : (view : View) (path : List ℕ) (names : List (List ℕ)) (before : Heard) (told : Told) (called : Call) → HeardPages (request.List path) before.answers → list_next view (Ok names) (with_told told before) ≡ Asks called → HeardPages (request.List path) (with_told told before).answers
-pages-told view path names before (Fact known) called pages asks = pages
-pages-told view path names before (Answer answer) called pages asks =
+pages-told : (view : View) (names : List (List ℕ)) (before : Heard) (told : Told) (called : Call) → HeardPages (request.List (Ok names)) before.answers → list_next view (Ok names) (with_told told before) ≡ Asks called → HeardPages (request.List (Ok names)) (with_told told before).answers
+pages-told view names before (Fact known) called pages asks = pages
+pages-told view names before (Answer answer) called pages asks =
     all-append IsPage before.answers (answer ∷ []) pages (asks-behind view (prefix_of names) (before.answers ++ answer ∷ []) answer called (sym (list-decided view names before.facts before.answers answer) ∙ asks), tt)
 
-pages-found : (view : View) (path : List ℕ) (found : Result (List (List ℕ)) PathFault) (heard : Heard) (called : Call) → HasHeard (request.List path) heard → list_next view found heard ≡ Asks called → HeardPages (request.List path) heard.answers
-pages-found view path (Err why) heard called has asks = absurd (cc)
-pages-found view path (Ok names) heard called (HeardNothing is) asks = subst (λ (h : Heard). HeardPages (request.List path) h.answers) (sym is) tt
-pages-found view path (Ok names) heard called (HeardMore before told is pages) asks =
-    subst (λ (h : Heard). HeardPages (request.List path) h.answers) (sym is) (pages-told view path names before told called pages (ap (list_next view (Ok names)) (sym is) ∙ asks))
+pages-found : (view : View) (path : Result (List (List ℕ)) PathFault) (heard : Heard) (called : Call) → HasHeard (request.List path) heard → list_next view path heard ≡ Asks called → HeardPages (request.List path) heard.answers
+pages-found view (Err why) heard called has asks = absurd (cc)
+pages-found view (Ok names) heard called (HeardNothing is) asks = subst (λ (h : Heard). HeardPages (request.List (Ok names)) h.answers) (sym is) tt
+pages-found view (Ok names) heard called (HeardMore before told is pages) asks =
+    subst (λ (h : Heard). HeardPages (request.List (Ok names)) h.answers) (sym is) (pages-told view names before told called pages (ap (list_next view (Ok names)) (sym is) ∙ asks))
 
 pub asks-pages : (view : View) (request : Request) (heard : Heard) (called : Call) → HasHeard request heard → next_of view request heard ≡ Asks called → HeardPages request heard.answers
-asks-pages view (request.List path) heard called has asks = pages-found view path (path_of path) heard called has asks
+asks-pages view (request.List path) heard called has asks = pages-found view path heard called has asks
 asks-pages view other heard called has asks = tt

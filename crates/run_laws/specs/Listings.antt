@@ -1,7 +1,6 @@
 -- What a line that lists a directory has heard, and what a job that lists has to do with its line.
 use Rattle.std.specs.Prelude.{◌≡◌, ℕ, ◌<◌, List, length, Ok, Some}
 use Rattle.std.specs.List.{AllByRecursion}
-use Rattle.mp_types.specs.Path.{path_of}
 use Rattle.listing_rules.specs.Names.{prefix_of}
 use Rattle.bucket_model.specs.declared.call.Call.{Call}
 use Rattle.bucket_model.specs.declared.call.Call.TheVariants as call
@@ -34,10 +33,8 @@ AsksItself other who line = Unit {0}
 
 -- it lists the directory with this prefix
 pub record ListsUnder (prefix : List ℕ) (asked : Request) : Type 0 where
-  pub path : List ℕ
-  pub lists : asked ≡ request.List path
   pub names : List (List ℕ)
-  pub fine : path_of path ≡ Ok names
+  pub lists : asked ≡ request.List (Ok names)
   pub prefix_is : prefix ≡ prefix_of names
 
 -- only such a request makes a call that lists

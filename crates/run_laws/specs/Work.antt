@@ -4,7 +4,7 @@ use Rattle.std.specs.FinMap as table
 use Rattle.mp_types.specs.HandleName.{HandleName}
 use Rattle.mp_types.specs.Content.{bytes_of}
 use Rattle.mp_types.specs.declared.path.PathFault.{PathFault}
-use Rattle.mp_types.specs.Path.{path_of, slash}
+use Rattle.mp_types.specs.Path.{slash}
 use Rattle.mp_rules.specs.declared.facts.Question.{Question}
 use Rattle.mp_rules.specs.declared.facts.Question.TheVariants.{Head, Probe}
 use Rattle.mp_rules.specs.declared.facts.Fact.{Fact}
@@ -72,16 +72,16 @@ list_left (Ok names) heard = unless_answered heard.answers (open_along (fact_in 
 -- a writer's calls aren't its lines' own
 abbrev pub calls_left : Request → Heard → ℕ
 calls_left (Put key content) heard = one_left heard.answers
-calls_left (Stat path) heard = path_left 0 (path_of path) heard
-calls_left (request.List path) heard = list_left (path_of path) heard
-calls_left (OpenRead name path) heard = path_left 0 (path_of path) heard
-calls_left (OpenWrite name path) heard = path_left 0 (path_of path) heard
-calls_left (OpenTruncate name path) heard = path_left 0 (path_of path) heard
+calls_left (Stat path) heard = path_left 0 path heard
+calls_left (request.List path) heard = list_left path heard
+calls_left (OpenRead name path) heard = path_left 0 path heard
+calls_left (OpenWrite name path) heard = path_left 0 path heard
+calls_left (OpenTruncate name path) heard = path_left 0 path heard
 calls_left (Read name offset count) heard = one_left heard.answers
 calls_left (Delete key) heard = one_left heard.answers
-calls_left (MakeDir path) heard = path_left 0 (path_of path) heard
-calls_left (RemoveDir path) heard = path_left 0 (path_of path) heard
-calls_left (Unlink path) heard = path_left 1 (path_of path) heard
+calls_left (MakeDir path) heard = path_left 0 path heard
+calls_left (RemoveDir path) heard = path_left 0 path heard
+calls_left (Unlink path) heard = path_left 1 path heard
 calls_left other heard = 0
 
 -- and so many calls its writer may need for it: a new file one part of no bytes, its upload, its object and its end, and

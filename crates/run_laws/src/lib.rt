@@ -9,7 +9,6 @@ ghost use Rattle.std.specs.List.{AllByRecursion};
 ghost use Rattle.mp_types.specs.declared.options.Opts.{Opts};
 ghost use Rattle.mp_types.specs.Options.{AreWithin};
 ghost use Rattle.mp_types.specs.HandleName.{HandleName};
-ghost use Rattle.mp_types.specs.Path.{path_of};
 ghost use Rattle.mp_types.specs.declared.octets.Data.{Data};
 ghost use Rattle.mp_types.specs.declared.path.PathFault.{PathFault};
 ghost use Rattle.bucket_model.specs.declared.call.Call.{Call};
@@ -158,24 +157,24 @@ pub fn calls_are_few()
     ensures run { (options : Opts) (script : List Line) (steps : List Step) → AreWithin options → AreRising 0 script → IsRunSoFar options script steps → AllByRecursion (λ line. jobs_of line.number (state_after options script steps).jobs ≤ calls_left line.request nothing_heard) script }
     ensures falls { (view : View) (request : Request) (heard : Heard) (called : Call) (answer : Brief) → next_of view request heard ≡ Asks called → calls_left request (with_told (told_by (question_of called) answer) heard) < calls_left request heard }
     ensures put { (key : List ℕ) (content : Data) → calls_left (request.Put key content) nothing_heard ≡ 1 }
-    ensures stat { (path : List ℕ) (names : List (List ℕ)) → path_of path ≡ Ok names → calls_left (request.Stat path) nothing_heard ≤ 2 * length names }
-    ensures open { (name : ℕ) (path : List ℕ) (names : List (List ℕ)) → path_of path ≡ Ok names → calls_left (request.OpenRead name path) nothing_heard ≤ 2 * length names }
-    ensures open_write { (name : ℕ) (path : List ℕ) (names : List (List ℕ)) → path_of path ≡ Ok names → calls_left (request.OpenWrite name path) nothing_heard ≤ 2 * length names }
-    ensures open_truncate { (name : ℕ) (path : List ℕ) (names : List (List ℕ)) → path_of path ≡ Ok names → calls_left (request.OpenTruncate name path) nothing_heard ≤ 2 * length names }
-    ensures make { (path : List ℕ) (names : List (List ℕ)) → path_of path ≡ Ok names → calls_left (request.MakeDir path) nothing_heard ≤ 2 * length names }
-    ensures remove { (path : List ℕ) (names : List (List ℕ)) → path_of path ≡ Ok names → calls_left (request.RemoveDir path) nothing_heard ≤ 2 * length names }
-    ensures unlink { (path : List ℕ) (names : List (List ℕ)) → path_of path ≡ Ok names → calls_left (request.Unlink path) nothing_heard ≤ 2 * length names + 1 }
-    ensures list { (path : List ℕ) (names : List (List ℕ)) → path_of path ≡ Ok names → calls_left (request.List path) nothing_heard ≤ 2 * length names + max_pages }
+    ensures stat { (names : List (List ℕ)) → calls_left (request.Stat (Ok names)) nothing_heard ≤ 2 * length names }
+    ensures open { (name : ℕ) (names : List (List ℕ)) → calls_left (request.OpenRead name (Ok names)) nothing_heard ≤ 2 * length names }
+    ensures open_write { (name : ℕ) (names : List (List ℕ)) → calls_left (request.OpenWrite name (Ok names)) nothing_heard ≤ 2 * length names }
+    ensures open_truncate { (name : ℕ) (names : List (List ℕ)) → calls_left (request.OpenTruncate name (Ok names)) nothing_heard ≤ 2 * length names }
+    ensures make { (names : List (List ℕ)) → calls_left (request.MakeDir (Ok names)) nothing_heard ≤ 2 * length names }
+    ensures remove { (names : List (List ℕ)) → calls_left (request.RemoveDir (Ok names)) nothing_heard ≤ 2 * length names }
+    ensures unlink { (names : List (List ℕ)) → calls_left (request.Unlink (Ok names)) nothing_heard ≤ 2 * length names + 1 }
+    ensures list { (names : List (List ℕ)) → calls_left (request.List (Ok names)) nothing_heard ≤ 2 * length names + max_pages }
     ensures read { (name offset count : ℕ) → calls_left (request.Read name offset count) nothing_heard ≡ 1 }
     ensures delete { (key : List ℕ) → calls_left (request.Delete key) nothing_heard ≡ 1 }
-    ensures faulty { (path : List ℕ) (why : PathFault) → path_of path ≡ Err why → calls_left (request.Stat path) nothing_heard ≡ 0 }
-    ensures faulty_open { (name : ℕ) (path : List ℕ) (why : PathFault) → path_of path ≡ Err why → calls_left (request.OpenRead name path) nothing_heard ≡ 0 }
-    ensures faulty_open_write { (name : ℕ) (path : List ℕ) (why : PathFault) → path_of path ≡ Err why → calls_left (request.OpenWrite name path) nothing_heard ≡ 0 }
-    ensures faulty_open_truncate { (name : ℕ) (path : List ℕ) (why : PathFault) → path_of path ≡ Err why → calls_left (request.OpenTruncate name path) nothing_heard ≡ 0 }
-    ensures faulty_make { (path : List ℕ) (why : PathFault) → path_of path ≡ Err why → calls_left (request.MakeDir path) nothing_heard ≡ 0 }
-    ensures faulty_remove { (path : List ℕ) (why : PathFault) → path_of path ≡ Err why → calls_left (request.RemoveDir path) nothing_heard ≡ 0 }
-    ensures faulty_unlink { (path : List ℕ) (why : PathFault) → path_of path ≡ Err why → calls_left (request.Unlink path) nothing_heard ≡ 0 }
-    ensures faulty_list { (path : List ℕ) (why : PathFault) → path_of path ≡ Err why → calls_left (request.List path) nothing_heard ≡ 0 }
+    ensures faulty { (why : PathFault) → calls_left (request.Stat (Err why)) nothing_heard ≡ 0 }
+    ensures faulty_open { (name : ℕ) (why : PathFault) → calls_left (request.OpenRead name (Err why)) nothing_heard ≡ 0 }
+    ensures faulty_open_write { (name : ℕ) (why : PathFault) → calls_left (request.OpenWrite name (Err why)) nothing_heard ≡ 0 }
+    ensures faulty_open_truncate { (name : ℕ) (why : PathFault) → calls_left (request.OpenTruncate name (Err why)) nothing_heard ≡ 0 }
+    ensures faulty_make { (why : PathFault) → calls_left (request.MakeDir (Err why)) nothing_heard ≡ 0 }
+    ensures faulty_remove { (why : PathFault) → calls_left (request.RemoveDir (Err why)) nothing_heard ≡ 0 }
+    ensures faulty_unlink { (why : PathFault) → calls_left (request.Unlink (Err why)) nothing_heard ≡ 0 }
+    ensures faulty_list { (why : PathFault) → calls_left (request.List (Err why)) nothing_heard ≡ 0 }
     ensures writes { (name offset : ℕ) (content : Data) → calls_left (request.Write name offset content) nothing_heard ≡ 0 }
     ensures syncs { (name : ℕ) → calls_left (request.Sync name) nothing_heard ≡ 0 }
     ensures closes { (name : ℕ) → calls_left (request.Close name) nothing_heard ≡ 0 }
