@@ -4,7 +4,7 @@ use Rattle.std.specs.FinSet as set
 use Rattle.std.specs.FinMap as map
 use Rattle.mp_types.specs.declared.errno.Errno.TheVariants.{Eperm, Eexist, Eisdir, Emfile, Enotempty, Eoverflow}
 use Rattle.mp_types.specs.declared.path.PathFault.{PathFault}
-use Rattle.mp_types.specs.Path.{path_of, joined, slash}
+use Rattle.mp_types.specs.Path.{joined, slash}
 use Rattle.mp_types.specs.Content.{bytes_of}
 use Rattle.mp_types.specs.HandleName.{max_handles}
 use Rattle.mp_rules.specs.declared.entry.Entry.{Entry}
@@ -269,19 +269,19 @@ close-stands names line (Some (Writing w)) = tt
 next-stands : (view : View) (asked : Request) (heard : Heard) → MayStand view.names (next_of view asked heard)
 next-stands view (request.Put key content) heard = put-stands view.names key (bytes_of content) heard.answers
 next-stands view request.Await heard = tt
-next-stands view (request.Stat path) heard = stat-next view (path_of path) heard
-next-stands view (request.List path) heard = list-next view (path_of path) heard
-next-stands view (request.OpenRead name path) heard = open-next open_at view view.handle (path_of path) heard (λ names. open-stands view.names view.live names)
-next-stands view (request.OpenWrite name path) heard = open-next (create_at false) view view.handle (path_of path) heard (λ names. create-stands view.names false view.live names)
-next-stands view (request.OpenTruncate name path) heard = open-next (create_at view.options.allow_overwrite) view view.handle (path_of path) heard (λ names. create-stands view.names view.options.allow_overwrite view.live names)
+next-stands view (request.Stat path) heard = stat-next view path heard
+next-stands view (request.List path) heard = list-next view path heard
+next-stands view (request.OpenRead name path) heard = open-next open_at view view.handle path heard (λ names. open-stands view.names view.live names)
+next-stands view (request.OpenWrite name path) heard = open-next (create_at false) view view.handle path heard (λ names. create-stands view.names false view.live names)
+next-stands view (request.OpenTruncate name path) heard = open-next (create_at view.options.allow_overwrite) view view.handle path heard (λ names. create-stands view.names view.options.allow_overwrite view.live names)
 next-stands view (request.Read name offset count) heard = read-stands view.names view.handle offset count heard.answers
 next-stands view (request.Write name offset content) heard = write-stands view.names view.handle offset (bytes_of content)
 next-stands view (request.Sync name) heard = sync-stands view.names view.line view.handle
 next-stands view (request.Close name) heard = close-stands view.names view.line view.handle
 next-stands view (request.Delete key) heard = delete-stands view.names key heard.answers
-next-stands view (request.MakeDir path) heard = make-next view (path_of path) heard
-next-stands view (request.RemoveDir path) heard = remove-next view (path_of path) heard
-next-stands view (request.Unlink path) heard = unlink-next view (path_of path) heard
+next-stands view (request.MakeDir path) heard = make-next view path heard
+next-stands view (request.RemoveDir path) heard = remove-next view path heard
+next-stands view (request.Unlink path) heard = unlink-next view path heard
 
 pub created : (view : View) (asked : Request) (heard : Heard) (key : List ℕ) → next_of view asked heard ≡ Creates key → IsNoName view.names key
 created view asked heard key is = subst (MayStand view.names) is (next-stands view asked heard)

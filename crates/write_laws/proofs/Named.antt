@@ -6,7 +6,7 @@ use Rattle.mp_types.specs.declared.path.PathFault.{PathFault}
 use Rattle.mp_types.specs.declared.octets.Data.{Data}
 use Rattle.mp_types.specs.HandleName.{max_handles}
 use Rattle.mp_types.specs.Content.{bytes_of}
-use Rattle.mp_types.specs.Path.{path_of, joined}
+use Rattle.mp_types.specs.Path.{joined}
 use Rattle.mp_rules.specs.declared.entry.Entry.{Entry}
 use Rattle.mp_rules.specs.declared.entry.Entry.TheVariants.{RemoteDir, LocalDir, LocalFile, File, Nothing}
 use Rattle.mp_rules.specs.declared.facts.Question.{Question}
@@ -64,9 +64,9 @@ write-named line w name offset content = by (refusal w.upload offset (length (by
     by None is = WritesMore (length (bytes_of content)) (taken w.upload offset (length (bytes_of content)) is).opened refl
 
 pub named-next : (view : View) (request : Request) (heard : Heard) (name : ℕ) (w : Writer) → name_in request ≡ Some name → view.handle ≡ Some (Writing w) → NamedNext view.line request w (next_of view request heard)
-named-next view (OpenRead own path) heard name w names live = open-named open_at view w (OpenRead own path) (path_of path) heard live
-named-next view (OpenWrite own path) heard name w names live = open-named (create_at false) view w (OpenWrite own path) (path_of path) heard live
-named-next view (OpenTruncate own path) heard name w names live = open-named (create_at view.options.allow_overwrite) view w (OpenTruncate own path) (path_of path) heard live
+named-next view (OpenRead own path) heard name w names live = open-named open_at view w (OpenRead own path) path heard live
+named-next view (OpenWrite own path) heard name w names live = open-named (create_at false) view w (OpenWrite own path) path heard live
+named-next view (OpenTruncate own path) heard name w names live = open-named (create_at view.options.allow_overwrite) view w (OpenTruncate own path) path heard live
 named-next view (Read own offset count) heard name w names live = FailsSo Ebadf (ap (λ (h : Option Handle). read_next h offset count heard.answers) live)
 named-next view (Write own offset content) heard name w names live = subst (λ (h : Option Handle). NamedNext view.line (Write own offset content) w (write_next h offset (bytes_of content))) (sym live) (write-named view.line w own offset content)
 named-next view (Sync own) heard name w names live = HasEnd (waiter.Sync view.line) refl (ap (sync_next view.line) live)
@@ -250,19 +250,19 @@ close-none line (Some (Writing w)) = tt
 next-none : (view : View) (request : Request) (heard : Heard) → NamesNone (next_of view request heard)
 next-none view (Put key content) heard = put-none key (bytes_of content) heard.answers
 next-none view Await heard = tt
-next-none view (Stat path) heard = stats-none view (path_of path) heard
-next-none view (request.List path) heard = lists-none view (path_of path) heard
-next-none view (OpenRead name path) heard = opening-none open_at open-none view view.handle (path_of path) heard
-next-none view (OpenWrite name path) heard = opening-none (create_at false) (create-none false) view view.handle (path_of path) heard
-next-none view (OpenTruncate name path) heard = opening-none (create_at view.options.allow_overwrite) (create-none view.options.allow_overwrite) view view.handle (path_of path) heard
+next-none view (Stat path) heard = stats-none view path heard
+next-none view (request.List path) heard = lists-none view path heard
+next-none view (OpenRead name path) heard = opening-none open_at open-none view view.handle path heard
+next-none view (OpenWrite name path) heard = opening-none (create_at false) (create-none false) view view.handle path heard
+next-none view (OpenTruncate name path) heard = opening-none (create_at view.options.allow_overwrite) (create-none view.options.allow_overwrite) view view.handle path heard
 next-none view (Read name offset count) heard = read-none view.handle offset count heard.answers
 next-none view (Write name offset content) heard = write-none view.handle offset content
 next-none view (Sync name) heard = sync-none view.line view.handle
 next-none view (Close name) heard = close-none view.line view.handle
 next-none view (Delete key) heard = delete-none key heard.answers
-next-none view (MakeDir path) heard = makes-none view (path_of path) heard
-next-none view (RemoveDir path) heard = removes-none view (path_of path) heard
-next-none view (Unlink path) heard = unlinks-none view (path_of path) heard
+next-none view (MakeDir path) heard = makes-none view path heard
+next-none view (RemoveDir path) heard = removes-none view path heard
+next-none view (Unlink path) heard = unlinks-none view path heard
 
 pub asks-none : (view : View) (request : Request) (heard : Heard) (called : Call) → next_of view request heard ≡ Asks called → upload_in called ≡ None
 asks-none view request heard called is = subst NamesNone is (next-none view request heard)
