@@ -1,8 +1,7 @@
 -- What a request with a path does by what stands there.
 use Rattle.std.proofs.Common.{◌≡◌, ℕ, List, [], ◌∷◌, Option, Bor, None, Some, option_copied, is_some, false, slice_get, Ok, refl, sym, subst, ap, ◌∙◌}
-use Rattle.mp_types.specs.Path.{joined, names_in}
+use Rattle.mp_types.specs.Path.{joined}
 use Rattle.mp_types.specs.declared.errno.Errno.TheVariants.{Eisdir}
-use Rattle.mp_types.proofs.Paths.{joined_is}
 use Rattle.mp_rules.specs.declared.entry.Entry.{Entry as Stands}
 use Rattle.bucket_model.specs.declared.answer.Brief.{Brief}
 use Rattle.bucket_model.specs.declared.answer.Brief.TheVariants as brief
@@ -16,12 +15,12 @@ use Rattle.mount_plan.specs.Gone.{is_gone}
 use Rattle.mount_plan.specs.Looked.{IsFound}
 use Rattle.mount_plan.specs.Meant.{MeansOne}
 
--- the key of a path is what stands behind its first `/`
-pub goes_by : (plan : LinePlan) (view : View) (root : Next) (at : List ℕ → Stands → Next) (below : List ℕ) (heard : Heard) (found : Found) (entry : Stands) → found ≡ Entry entry → IsFound below view heard found → MeansOne plan (at below entry)
-    → MeansOne plan (along view root (at (joined (names_in below))) (names_in below) heard)
-goes_by plan view root at below heard found entry is there means =
-    let stands = subst (IsFound below view heard) is there in
-    subst (MeansOne plan) (sym (stands.1 root (at (joined (names_in below))) ∙ ap (λ (key : List ℕ). at key entry) (joined_is below))) means
+-- an entry is that of the path's key
+pub goes_by : (plan : LinePlan) (view : View) (root : Next) (at : List ℕ → Stands → Next) (names : List (List ℕ)) (heard : Heard) (found : Found) (key : Bor (List ℕ)) (entry : Stands) → found ≡ Entry key entry → IsFound names view heard found → MeansOne plan (at key.now entry)
+    → MeansOne plan (along view root (at (joined names)) names heard)
+goes_by plan view root at names heard found key entry is there means =
+    let stands = subst (IsFound names view heard) is there in
+    subst (MeansOne plan) (sym (stands.2 root (at (joined names)) ∙ ap (λ (k : List ℕ). at k entry) (sym stands.0))) means
 
 pub not_live : (live : Option (Bor Handle)) → is_some live ≡ false → option_copied live ≡ None
 not_live None none = refl

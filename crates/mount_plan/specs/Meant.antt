@@ -1,8 +1,7 @@
 -- What a plan says that a line does next.
-use Rattle.std.specs.Prelude.{◌≡◌, ℕ, ◌<◌, List, Option, None, Some, Ok, option_copied}
+use Rattle.std.specs.Prelude.{◌≡◌, ℕ, ◌<◌, Option, None, Some, option_copied}
 use Rattle.mp_types.specs.Content.{bytes_of}
 use Rattle.mp_types.specs.Key.{IsKeyText}
-use Rattle.mp_types.specs.Path.{path_of}
 use Rattle.mp_rules.specs.QuestionRef.{as_question, key_in}
 use Rattle.listing_rules.specs.Names.{listing_of, prefix_of}
 use Rattle.listing_rules.specs.Pages.{items_of}
@@ -25,10 +24,10 @@ abbrev pub with_last : Option Told → Heard → Heard
 with_last None heard = heard
 with_last (Some told) heard = with_told told heard
 
--- a key that stands in a path is as long as a key may be, a range that is asked for has at least one, and a path that is listed has no fault
+-- a key that stands in a path is as long as a key may be, and a range that is asked for has at least one
 abbrev pub MeansOne : LinePlan → Next → Type 0
 MeansOne (Ask asked) next = (next ≡ Asks (call_of (as_question asked))) × IsKeyText (key_in asked)
-MeansOne (Page path after max) next = (names : List (List ℕ)) × (path_of path.now ≡ Ok names) × (next ≡ Asks (call.List (prefix_of names) after.now max))
+MeansOne (Page path after max) next = next ≡ Asks (call.List (prefix_of path.now) after.now max)
 MeansOne (Get version from to) next = (next ≡ Asks (call.Get version.now.key version.now.etag from to)) × (from < to)
 MeansOne (Put key content) next = next ≡ Asks (call.Put key.now (bytes_of content.now))
 MeansOne (Delete key) next = next ≡ Asks (call.Delete key.now)
@@ -38,7 +37,7 @@ MeansOne (MakeDir key) next = (next ≡ Makes key.now) × IsKeyText key.now
 MeansOne (RemoveDir key) next = (next ≡ Removes key.now) × IsKeyText key.now
 MeansOne (Open key etag size) next = (next ≡ Opens (record { key = key.now; etag = etag; size = size })) × IsKeyText key.now
 MeansOne (Create key) next = (next ≡ Creates key.now) × IsKeyText key.now
-MeansOne (Listing path heard last own) next = (names : List (List ℕ)) × (path_of path.now ≡ Ok names) × (next ≡ Lists (listing_of (prefix_of names) (items_of (pages_in (with_last (option_copied last) heard.now).answers)) own.now))
+MeansOne (Listing path heard last own) next = next ≡ Lists (listing_of (prefix_of path.now) (items_of (pages_in (with_last (option_copied last) heard.now).answers)) own.now)
 MeansOne (Give count) next = next ≡ Gives count
 MeansOne Wait next = next ≡ Waits
 

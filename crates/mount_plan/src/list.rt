@@ -1,5 +1,4 @@
-ghost use Rattle.std.specs.Prelude.{◌≡◌, ◌+◌, List, ℕ, [], length, nat_lt, Ok, option_copied};
-ghost use Rattle.mp_types.specs.Path.{path_of};
+ghost use Rattle.std.specs.Prelude.{◌≡◌, ◌+◌, [], length, nat_lt, Ok, option_copied};
 ghost use Rattle.listing_rules.specs.Names.{prefix_of};
 ghost use Rattle.mount_model.specs.declared.standing.Heard.{Heard as HeardBefore};
 ghost use Rattle.mount_model.specs.Conversation.{View as Sees, asks_page, behind_answer, behind_page, list_at, list_next, max_pages};
@@ -8,14 +7,14 @@ ghost use Rattle.mount_plan.specs.Seen.{view_of};
 ghost use Rattle.mount_plan.specs.Unkept.{unkept_errno};
 
 use crate::answered::{last_answer, newest_answer};
-use crate::lookup::{Found, look_up, path_errno};
+use crate::lookup::{Found, look_up};
 use crate::planned::failed;
 use crate::{LinePlan, View};
 use bucket_model::{Brief, Page};
 use dir_reader::last_text_of;
 use mount_model::{Heard, Told, errno_of};
 use mp_rules::Entry;
-use mp_types::{Errno, below_root};
+use mp_types::{Errno, FilePath};
 
 const MAX_PAGES: usize = 10_000;
 
@@ -38,13 +37,13 @@ fn may_ask_on(kept: usize, unkept: usize) -> bool
 
 // A page came last.
 fn page_plan<'a>(
-    path: &'a str,
+    path: &'a FilePath,
     view: &View<'a>,
     heard: &'a Heard,
     last: Option<&'a Told>,
     page: &'a Page,
 ) -> LinePlan<'a>
-    ensures { (names : List (List ℕ)) → path_of path.now ≡ Ok names → MeansOne result (behind_page (view_of view.now) (prefix_of names) (with_last (option_copied last.entry) heard.now).answers page.now) }
+    ensures { MeansOne result (behind_page (view_of view.now) (prefix_of path.now) (with_last (option_copied last.entry) heard.now).answers page.now) }
 {
     if !page.more {
         return LinePlan::List {
@@ -66,13 +65,13 @@ fn page_plan<'a>(
 
 // This answer came last.
 fn answer_plan<'a>(
-    path: &'a str,
+    path: &'a FilePath,
     view: &View<'a>,
     heard: &'a Heard,
     last: Option<&'a Told>,
     answer: &'a Brief,
 ) -> LinePlan<'a>
-    ensures { (names : List (List ℕ)) → path_of path.now ≡ Ok names → MeansOne result (behind_answer (view_of view.now) (prefix_of names) (with_last (option_copied last.entry) heard.now).answers answer.now) }
+    ensures { MeansOne result (behind_answer (view_of view.now) (prefix_of path.now) (with_last (option_copied last.entry) heard.now).answers answer.now) }
 {
     match answer {
         Brief::Page(page) => page_plan(path, view, heard, last, page),
@@ -80,8 +79,8 @@ fn answer_plan<'a>(
     }
 }
 
-fn first_page(path: &str, max: u32) -> LinePlan<'_>
-    ensures { (view : Sees) (names : List (List ℕ)) → view.options.page ≡ max → path_of path.now ≡ Ok names → MeansOne result (asks_page view (prefix_of names) []) }
+fn first_page(path: &FilePath, max: u32) -> LinePlan<'_>
+    ensures { (view : Sees) → view.options.page ≡ max → MeansOne result (asks_page view (prefix_of path.now) []) }
 {
     LinePlan::Page {
         path,
@@ -90,8 +89,8 @@ fn first_page(path: &str, max: u32) -> LinePlan<'_>
     }
 }
 
-fn entry_plan(path: &str, max: u32, entry: Entry) -> LinePlan<'_>
-    ensures { (view : Sees) (names : List (List ℕ)) → view.options.page ≡ max → path_of path.now ≡ Ok names → MeansOne result (list_at (asks_page view (prefix_of names) []) entry) }
+fn entry_plan(path: &FilePath, max: u32, entry: Entry) -> LinePlan<'_>
+    ensures { (view : Sees) → view.options.page ≡ max → MeansOne result (list_at (asks_page view (prefix_of path.now) []) entry) }
 {
     match entry {
         Entry::RemoteDir | Entry::LocalDir => first_page(path, max),
@@ -103,23 +102,19 @@ fn entry_plan(path: &str, max: u32, entry: Entry) -> LinePlan<'_>
 /// What a listing does next: once a directory is found, it asks for page after page, and then it gives the names of all.
 /// It goes by its last answer alone, so that a page costs the same however many came before.
 pub fn list_plan<'a>(
-    path: &'a str,
+    path: &'a FilePath,
     view: &View<'a>,
     heard: &'a Heard,
     last: Option<&'a Told>,
 ) -> LinePlan<'a>
-    ensures { MeansOne result (list_next (view_of view.now) (path_of path.now) (with_last (option_copied last.entry) heard.now)) }
+    ensures { MeansOne result (list_next (view_of view.now) (Ok path.now) (with_last (option_copied last.entry) heard.now)) }
 {
-    let below = match below_root(path) {
-        Ok(below) => below,
-        Err(why) => return failed(path_errno(why)),
-    };
     if let Some(answer) = newest_answer(heard, last) {
         return answer_plan(path, view, heard, last, answer);
     }
-    match look_up(below, view, heard, last) {
+    match look_up(path, view, heard, last) {
         Ok(Found::Root) => first_page(path, view.options.page),
-        Ok(Found::Entry(entry)) => entry_plan(path, view.options.page, entry),
+        Ok(Found::Entry { entry, .. }) => entry_plan(path, view.options.page, entry),
         Err(plan) => plan,
     }
 }

@@ -1,6 +1,4 @@
-ghost use Rattle.std.specs.Prelude.{◌≡◌, ◌≤◌, true, length, MatchResult, option_copied};
-ghost use Rattle.mp_types.specs.Key.{max_key_length};
-ghost use Rattle.mp_types.specs.Path.{are_names, names_in};
+ghost use Rattle.std.specs.Prelude.{◌≡◌, MatchResult, option_copied};
 ghost use Rattle.mount_model.specs.Conversation.{errno_of_path};
 ghost use Rattle.mount_plan.specs.Looked.{IsFound, IsShort};
 ghost use Rattle.mount_plan.specs.Meant.{with_last};
@@ -11,19 +9,21 @@ use crate::planned::failed;
 use crate::{LinePlan, View};
 use mount_model::{Heard, Told, errno_of};
 use mp_rules::Entry;
-use mp_types::{Errno, PathFault};
+use mp_types::{Errno, FilePath, PathFault};
 use superblock::{Decision, decide};
 
 /// What stands at a path.
-pub enum Found {
+#[derive(Drop)]
+pub enum Found<'a> {
     // It is the root.
     Root,
-    Entry(Entry),
+    // This stands at the path's key, of 1 to 1,024 bytes.
+    Entry { key: &'a str, entry: Entry },
 }
 
 /// The error of a faulty path.
-pub fn path_errno(why: PathFault) -> Errno
-    ensures { result ≡ errno_of_path why }
+pub fn path_errno(why: &PathFault) -> Errno
+    ensures { result ≡ errno_of_path why.now }
 {
     match why {
         PathFault::Empty | PathFault::BadName(_) => Errno::Einval,
@@ -32,28 +32,26 @@ pub fn path_errno(why: PathFault) -> Errno
     }
 }
 
-/// What stands at a path, given by what stands behind its first `/`, or what the line does where that isn't told yet
-/// or can't be.
+/// What stands at a path, or what the line does where that isn't told yet or can't be.
 pub fn look_up<'a>(
-    below: &'a str,
+    path: &'a FilePath,
     view: &View<'_>,
     heard: &Heard,
     last: Option<&Told>,
-) -> Result<Found, LinePlan<'a>>
-    requires names { are_names (names_in below.now) ≡ true }
-    requires short { length below.now ≤ max_key_length }
+) -> Result<Found<'a>, LinePlan<'a>>
     ensures { let all = with_last (option_copied last.entry) heard.now in
-        MatchResult result (λ found. IsFound below.now (view_of view.now) all found) (λ plan. IsShort below.now (view_of view.now) all plan) }
+        MatchResult result (λ found. IsFound path.now (view_of view.now) all found) (λ plan. IsShort path.now (view_of view.now) all plan) }
 {
-    if below.is_empty() {
+    let key = path.as_key();
+    if key.is_empty() {
         return Ok(Found::Root);
     }
     if let Some(answer) = first_answer(heard, last) {
         return Err(failed(errno_of(answer)));
     }
-    match decide(below, view.names, &heard.facts, last_fact(last)) {
+    match decide(key, view.names, &heard.facts, last_fact(last)) {
         Decision::Ask(asked) => Err(LinePlan::Ask(asked)),
-        Decision::Is(entry) => Ok(Found::Entry(entry)),
+        Decision::Is(entry) => Ok(Found::Entry { key, entry }),
         Decision::Refused(errno) => Err(failed(errno)),
     }
 }

@@ -1,16 +1,15 @@
-ghost use Rattle.std.specs.Prelude.{option_copied};
+ghost use Rattle.std.specs.Prelude.{Ok, option_copied};
 ghost use Rattle.mp_types.specs.Key.{IsKeyText};
-ghost use Rattle.mp_types.specs.Path.{path_of};
 ghost use Rattle.mount_model.specs.Conversation.{make_at, make_next};
 ghost use Rattle.mount_plan.specs.Meant.{MeansOne, with_last};
 ghost use Rattle.mount_plan.specs.Seen.{view_of};
 
-use crate::lookup::{Found, look_up, path_errno};
+use crate::lookup::{Found, look_up};
 use crate::planned::failed;
 use crate::{LinePlan, View};
 use mount_model::{Heard, Told};
 use mp_rules::Entry;
-use mp_types::{Errno, below_root};
+use mp_types::{Errno, FilePath};
 
 fn entry_plan(key: &str, entry: Entry) -> LinePlan<'_>
     requires key { IsKeyText key.now }
@@ -26,20 +25,16 @@ fn entry_plan(key: &str, entry: Entry) -> LinePlan<'_>
 
 /// What a `mkdir` does next: a directory is made only where nothing stands.
 pub fn make_plan<'a>(
-    path: &'a str,
+    path: &'a FilePath,
     view: &View<'_>,
     heard: &Heard,
     last: Option<&Told>,
 ) -> LinePlan<'a>
-    ensures { MeansOne result (make_next (view_of view.now) (path_of path.now) (with_last (option_copied last.entry) heard.now)) }
+    ensures { MeansOne result (make_next (view_of view.now) (Ok path.now) (with_last (option_copied last.entry) heard.now)) }
 {
-    let below = match below_root(path) {
-        Ok(below) => below,
-        Err(why) => return failed(path_errno(why)),
-    };
-    match look_up(below, view, heard, last) {
+    match look_up(path, view, heard, last) {
         Ok(Found::Root) => failed(Errno::Eexist),
-        Ok(Found::Entry(entry)) => entry_plan(below, entry),
+        Ok(Found::Entry { key, entry }) => entry_plan(key, entry),
         Err(plan) => plan,
     }
 }

@@ -6,8 +6,10 @@ ghost use Rattle.mount_plan.specs.Seen.{view_of};
 use crate::close::close_plan;
 use crate::delete::delete_plan;
 use crate::list::list_plan;
+use crate::lookup::path_errno;
 use crate::make::make_plan;
 use crate::open::{Mode, open_plan};
+use crate::planned::failed;
 use crate::put::put_plan;
 use crate::read::read_plan;
 use crate::remove::remove_plan;
@@ -18,7 +20,7 @@ use crate::write::write_plan;
 use crate::{LinePlan, Plan, View};
 use mount_model::{Heard, Request, Told};
 
-/// What a line with this request does next. The line has `heard` this of its own calls, and then `last`, which may
+/// What a line with this request does next. A faulty path comes before all else. The line has `heard` this of its own calls, and then `last`, which may
 /// stand apart, so that a caller with no memory to put it behind the others can ask.
 pub fn plan<'a>(
     view: View<'a>,
@@ -32,20 +34,16 @@ pub fn plan<'a>(
     match request {
         Request::Put { key, content } => Plan::Line(put_plan(key, content, heard, last)),
         Request::Await => Plan::Line(LinePlan::Wait),
-        Request::Stat { path } => Plan::Line(stat_plan(path.as_str(), &view, heard, last)),
-        Request::List { path } => Plan::Line(list_plan(path.as_str(), &view, heard, last)),
-        Request::OpenRead { path, .. } => Plan::Line(open_plan(
-            path.as_str(),
-            Mode::Read,
-            &view,
-            heard,
-            last,
-        )),
-        Request::OpenWrite { path, .. } => {
-            Plan::Line(open_plan(path.as_str(), Mode::Write, &view, heard, last))
+        Request::Stat { path: Ok(path) } => Plan::Line(stat_plan(path, &view, heard, last)),
+        Request::List { path: Ok(path) } => Plan::Line(list_plan(path, &view, heard, last)),
+        Request::OpenRead { path: Ok(path), .. } => {
+            Plan::Line(open_plan(path, Mode::Read, &view, heard, last))
         }
-        Request::OpenTruncate { path, .. } => {
-            Plan::Line(open_plan(path.as_str(), Mode::Truncate, &view, heard, last))
+        Request::OpenWrite { path: Ok(path), .. } => {
+            Plan::Line(open_plan(path, Mode::Write, &view, heard, last))
+        }
+        Request::OpenTruncate { path: Ok(path), .. } => {
+            Plan::Line(open_plan(path, Mode::Truncate, &view, heard, last))
         }
         Request::Read { offset, count, .. } => Plan::Line(read_plan(
             view.handle,
@@ -62,8 +60,16 @@ pub fn plan<'a>(
         Request::Sync { .. } => sync_plan(view.handle, view.line),
         Request::Close { .. } => close_plan(view.handle, view.line),
         Request::Delete { key } => Plan::Line(delete_plan(key, heard, last)),
-        Request::MakeDir { path } => Plan::Line(make_plan(path.as_str(), &view, heard, last)),
-        Request::RemoveDir { path } => Plan::Line(remove_plan(path.as_str(), &view, heard, last)),
-        Request::Unlink { path } => Plan::Line(unlink_plan(path.as_str(), &view, heard, last)),
+        Request::MakeDir { path: Ok(path) } => Plan::Line(make_plan(path, &view, heard, last)),
+        Request::RemoveDir { path: Ok(path) } => Plan::Line(remove_plan(path, &view, heard, last)),
+        Request::Unlink { path: Ok(path) } => Plan::Line(unlink_plan(path, &view, heard, last)),
+        Request::Stat { path: Err(why) }
+        | Request::List { path: Err(why) }
+        | Request::OpenRead { path: Err(why), .. }
+        | Request::OpenWrite { path: Err(why), .. }
+        | Request::OpenTruncate { path: Err(why), .. }
+        | Request::MakeDir { path: Err(why) }
+        | Request::RemoveDir { path: Err(why) }
+        | Request::Unlink { path: Err(why) } => Plan::Line(failed(path_errno(why))),
     }
 }

@@ -1,17 +1,16 @@
-ghost use Rattle.std.specs.Prelude.{option_copied};
+ghost use Rattle.std.specs.Prelude.{Ok, option_copied};
 ghost use Rattle.mp_types.specs.Key.{IsKeyText};
-ghost use Rattle.mp_types.specs.Path.{path_of};
 ghost use Rattle.mount_model.specs.Conversation.{Next, create_at, open_at, open_next, opens_if};
 ghost use Rattle.mount_plan.specs.Meant.{MeansOne, with_last};
 ghost use Rattle.mount_plan.specs.Opened.{opened_at};
 ghost use Rattle.mount_plan.specs.Seen.{view_of};
 
-use crate::lookup::{Found, look_up, path_errno};
+use crate::lookup::{Found, look_up};
 use crate::planned::failed;
 use crate::{LinePlan, View};
 use mount_model::{Heard, Told};
 use mp_rules::Entry;
-use mp_types::{Errno, MAX_HANDLES, below_root};
+use mp_types::{Errno, FilePath, MAX_HANDLES};
 
 /// What a path is opened for.
 #[derive(Clone, Copy)]
@@ -69,26 +68,22 @@ fn entry_plan<'a>(key: &'a str, mode: Mode, view: &View<'_>, entry: Entry) -> Li
     }
 }
 
-/// What an open does next. A faulty path comes before a handle's name that is live.
+/// What an open does next: the handle's name has to be free.
 pub fn open_plan<'a>(
-    path: &'a str,
+    path: &'a FilePath,
     mode: Mode,
     view: &View<'_>,
     heard: &Heard,
     last: Option<&Told>,
 ) -> LinePlan<'a>
-    ensures { MeansOne result (open_next (opened_at view.now.options mode) (view_of view.now) (option_copied view.now.handle) (path_of path.now) (with_last (option_copied last.entry) heard.now)) }
+    ensures { MeansOne result (open_next (opened_at view.now.options mode) (view_of view.now) (option_copied view.now.handle) (Ok path.now) (with_last (option_copied last.entry) heard.now)) }
 {
-    let below = match below_root(path) {
-        Ok(below) => below,
-        Err(why) => return failed(path_errno(why)),
-    };
     if view.handle.is_some() {
         return failed(Errno::Einval);
     }
-    match look_up(below, view, heard, last) {
+    match look_up(path, view, heard, last) {
         Ok(Found::Root) => failed(Errno::Eisdir),
-        Ok(Found::Entry(entry)) => entry_plan(below, mode, view, entry),
+        Ok(Found::Entry { key, entry }) => entry_plan(key, mode, view, entry),
         Err(plan) => plan,
     }
 }

@@ -3,7 +3,7 @@ ghost use Rattle.std.specs.Prelude.{◌≡◌};
 use local_names::Locals;
 use mount_model::{Heard, Reply, Told, Version, Writer};
 use mp_rules::QuestionRef;
-use mp_types::{Data, ETag, Errno, Key};
+use mp_types::{Data, ETag, Errno, FilePath, Key};
 use part_uploader::Uploader;
 
 /// What a line does next, or the writer of the handle that it names.
@@ -33,9 +33,9 @@ pub enum Plan<'a> {
 pub enum LinePlan<'a> {
     /// It asks this about a key of 1 to 1,024 bytes.
     Ask(QuestionRef<'a>),
-    /// It asks for a page of at most `max` items of the directory at this path, which has no fault, behind a text.
+    /// It asks for a page of at most `max` items of the directory at this path, behind a text.
     Page {
-        path: &'a str,
+        path: &'a FilePath,
         after: &'a str,
         max: u32,
     },
@@ -70,10 +70,10 @@ pub enum LinePlan<'a> {
     Create {
         key: &'a str,
     },
-    /// It gives the names in the directory at this path, which has no fault: those that the pages among its answers
-    /// show, and the mount's own.
+    /// It gives the names in the directory at this path: those that the pages among its answers show, and the mount's
+    /// own.
     List {
-        path: &'a str,
+        path: &'a FilePath,
         heard: &'a Heard,
         last: Option<&'a Told>,
         names: &'a Locals,

@@ -1,19 +1,18 @@
-ghost use Rattle.std.specs.Prelude.{◌≡◌, option_copied};
+ghost use Rattle.std.specs.Prelude.{◌≡◌, Ok, option_copied};
 ghost use Rattle.mp_types.specs.Key.{IsKeyText};
-ghost use Rattle.mp_types.specs.Path.{path_of};
 ghost use Rattle.mount_model.specs.Conversation.{unlink_at, unlink_next};
 ghost use Rattle.mount_plan.specs.Gone.{is_gone};
 ghost use Rattle.mount_plan.specs.Meant.{MeansOne, with_last};
 ghost use Rattle.mount_plan.specs.Seen.{view_of};
 
 use crate::answered::first_answer;
-use crate::lookup::{Found, look_up, path_errno};
+use crate::lookup::{Found, look_up};
 use crate::planned::failed;
 use crate::{LinePlan, View};
 use bucket_model::Brief;
 use mount_model::{Heard, Reply, Told};
 use mp_rules::Entry;
-use mp_types::{Errno, below_root};
+use mp_types::{Errno, FilePath};
 
 fn is_gone(answer: Option<&Brief>) -> bool
     ensures { result ≡ is_gone (option_copied answer.entry) }
@@ -37,23 +36,19 @@ fn entry_plan(key: &str, may_delete: bool, entry: Entry) -> LinePlan<'_>
 /// What an `unlink` does next: the Delete of a file, where the options allow it. Once the object is gone,
 /// the walk is not done again.
 pub fn unlink_plan<'a>(
-    path: &'a str,
+    path: &'a FilePath,
     view: &View<'_>,
     heard: &Heard,
     last: Option<&Told>,
 ) -> LinePlan<'a>
-    ensures { MeansOne result (unlink_next (view_of view.now) (path_of path.now) (with_last (option_copied last.entry) heard.now)) }
+    ensures { MeansOne result (unlink_next (view_of view.now) (Ok path.now) (with_last (option_copied last.entry) heard.now)) }
 {
-    let below = match below_root(path) {
-        Ok(below) => below,
-        Err(why) => return failed(path_errno(why)),
-    };
     if is_gone(first_answer(heard, last)) {
         return LinePlan::Reply(Reply::Success);
     }
-    match look_up(below, view, heard, last) {
+    match look_up(path, view, heard, last) {
         Ok(Found::Root) => failed(Errno::Eisdir),
-        Ok(Found::Entry(entry)) => entry_plan(below, view.options.allow_delete, entry),
+        Ok(Found::Entry { key, entry }) => entry_plan(key, view.options.allow_delete, entry),
         Err(plan) => plan,
     }
 }

@@ -10,4 +10,4 @@ pub returns-in-Ok-Entry : goal.returns-in-Ok-Entry
 returns-in-Ok-Entry c =
     let view = view_of c.args.view.now in
     let heard = with_last (option_copied c.args.last) c.args.heard.now in
-    rw c.in-Ok.ensures.0 (goes_by c.entry_plan.result view (fails Eexist) make_at c.in-Ok.below.now heard c.in-Ok-Entry.field-0 c.in-Ok-Entry.entry c.in-Ok-Entry.field-0-is c.in-Ok-Entry.ensures c.entry_plan.ensures)
+    goes_by c.entry_plan.result view (fails Eexist) make_at c.args.path.now heard c.in-Ok-Entry.field-0 c.in-Ok-Entry.key c.in-Ok-Entry.entry c.in-Ok-Entry.field-0-is c.in-Ok-Entry.ensures c.entry_plan.ensures

@@ -12,4 +12,4 @@ returns-in-Ok-Entry c =
     let view = view_of c.args.view.now in
     let heard = with_last (option_copied c.args.last) c.args.heard.now in
     let free = not_live c.args.view.now.handle (sym c.is_some.ensures ∙ c.if-is_some.false) in
-    rw (c.in-Ok.ensures.0, free) (goes_by c.entry_plan.result view (fails Eisdir) (opened_at view.options c.args.mode view.live) c.in-Ok.below.now heard c.in-Ok-Entry.field-0 c.in-Ok-Entry.entry c.in-Ok-Entry.field-0-is c.in-Ok-Entry.ensures c.entry_plan.ensures)
+    rw free (goes_by c.entry_plan.result view (fails Eisdir) (opened_at view.options c.args.mode view.live) c.args.path.now heard c.in-Ok-Entry.field-0 c.in-Ok-Entry.key c.in-Ok-Entry.entry c.in-Ok-Entry.field-0-is c.in-Ok-Entry.ensures c.entry_plan.ensures)
