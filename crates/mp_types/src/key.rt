@@ -68,6 +68,14 @@ impl Key {
         })
     }
 
+    /// The key of a text that is as long as a key may be. Takes no memory.
+    pub fn from_text(text: Text) -> Self
+        requires { IsKeyText text }
+        ensures { result ≡ text }
+    {
+        Key { text }
+    }
+
     /// The key's text.
     pub fn as_text(&self) -> &Text
         ensures text { result.now ≡ self.now }
@@ -92,12 +100,12 @@ impl Key {
         self.text.as_str()
     }
 
-    /// An equal key.
-    pub fn copy(&self, alloc: Global) -> Result<Self, AllocError>
-        ensures { IfOk result (λ copied. copied ≡ self.now) }
+    /// The same key for one more owner of its text. Takes no memory: an error says that there are too many owners.
+    pub fn share(&self) -> Result<Self, AllocError>
+        ensures { IfOk result (λ shared. shared ≡ self.now) }
     {
         Ok(Key {
-            text: Text::copy(alloc, self.text.as_str())?,
+            text: self.text.share()?,
         })
     }
 }

@@ -101,12 +101,12 @@ impl FilePath {
         }
     }
 
-    /// An equal path.
-    pub fn copy(&self, alloc: Global) -> Result<Self, AllocError>
-        ensures { IfOk result (λ copied. copied ≡ self.now) }
+    /// The same path for one more owner of its text. Takes no memory: an error says that there are too many owners.
+    pub fn share(&self) -> Result<Self, AllocError>
+        ensures { IfOk result (λ shared. shared ≡ self.now) }
     {
         Ok(FilePath {
-            text: Text::copy(alloc, self.text.as_str())?,
+            text: self.text.share()?,
         })
     }
 

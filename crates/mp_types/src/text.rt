@@ -1,51 +1,76 @@
-ghost use Rattle.std.specs.Prelude.{◌≡◌, ◌++◌, [], false, IfOk, MatchOption, Some, refl, nat_eq, string_bytes};
+ghost use Rattle.std.specs.Prelude.{◌≡◌, ◌++◌, [], false, take, IfOk, IsCharBoundary, MatchOption, Some, refl, nat_eq, string_bytes};
 ghost use Rattle.std.specs.List.{starts_with};
 ghost use Rattle.std.specs.Ordering.{nat_cmp};
 ghost use Rattle.std.specs.Cmp.{partial_equiv_from_equiv};
 ghost use Rattle.std.specs.Cmp.Lexicographic.{pointwise, slice_cmp, nat_list_cmp_total, nat_list_eq_equiv, texts_po, texts_ties};
 
+use bytes::ByteStr;
 use std::alloc::{AllocError, Global};
 use std::cmp::Ordering;
 use std::marker::Model;
 
-/// UTF-8 text of any length, ordered by its bytes.
+/// UTF-8 text of any length, ordered by its bytes. Several owners share the bytes, so that one more of them costs the
+/// same for any length.
 #[derive(Debug, Drop)]
 pub struct Text {
-    text: String,
+    text: ByteStr,
 }
 
 impl Model for Text {
-    ghost use Rattle.std.specs.Prelude.{List, ℕ, string_bytes};
+    ghost use Rattle.std.specs.Prelude.{List, ℕ};
 
     ghost Value = { List ℕ };
 
-    ghost view = { λ a. string_bytes a.text };
+    ghost view = { λ a. a.text };
 }
 
 impl Text {
-    /// A text of these bytes.
+    /// A text of these bytes, which are copied.
     pub fn copy(alloc: Global, text: &str) -> Result<Self, AllocError>
         ensures { IfOk result (λ copied. copied ≡ text.now) }
     {
         Ok(Text {
-            text: String::from_str(alloc, text)?,
+            text: ByteStr::copy_from_str(alloc, text)?,
         })
     }
 
     /// A text of no bytes. Takes no memory.
-    pub fn new(alloc: Global) -> Self
+    pub fn new() -> Self
         ensures { result ≡ [] }
     {
         Text {
-            text: String::new(alloc),
+            text: ByteStr::new(),
         }
     }
 
-    /// The text of a string. Takes no memory.
-    pub fn from_string(text: String) -> Self
-        ensures { result ≡ string_bytes text }
+    /// The text of a string. No byte is copied.
+    pub fn from_string(text: String) -> Result<Self, AllocError>
+        ensures { IfOk result (λ made. made ≡ string_bytes text) }
     {
-        Text { text }
+        Ok(Text {
+            text: ByteStr::from_string(text)?,
+        })
+    }
+
+    /// The same text for one more owner. Takes no memory: an error says that there are too many owners.
+    pub fn share(&self) -> Result<Self, AllocError>
+        ensures { IfOk result (λ shared. shared ≡ self.now) }
+    {
+        Ok(Text {
+            text: self.text.clone()?,
+        })
+    }
+
+    /// The text up to this place, which shares the bytes. Takes no memory: an error says that there are too many owners.
+    pub fn front(&self, end: usize) -> Result<Self, AllocError>
+        requires { IsCharBoundary self.now end }
+        ensures { IfOk result (λ front. front ≡ take end self.now) }
+    {
+        // Tells the proof that the bytes are UTF-8.
+        let _bytes = self.text.as_bytes();
+        Ok(Text {
+            text: self.text.slice(..end)?,
+        })
     }
 
     /// The text.
@@ -62,7 +87,7 @@ impl PartialEq for Text {
     ghost laws = { partial_equiv_from_equiv nat_list_eq_equiv };
 
     fn eq(&self, other: &Text) -> bool {
-        self.text.as_str() == other.text.as_str()
+        self.as_str() == other.as_str()
     }
 }
 
@@ -90,7 +115,7 @@ impl Ord for Text {
     ghost matches_eq = { texts_ties };
 
     fn cmp(&self, other: &Text) -> Ordering {
-        self.text.as_str().cmp(other.text.as_str())
+        self.as_str().cmp(other.as_str())
     }
 }
 
