@@ -3,7 +3,7 @@ ghost use Rattle.bucket_model.specs.declared.call.Call.TheVariants.{List, Put};
 
 use bytes::Bytes;
 use mp_types::{ETag, Key, Text};
-use std::alloc::{AllocError, Global};
+use std::alloc::AllocError;
 
 /// A call of a bucket.
 #[derive(Debug, Drop)]
@@ -62,11 +62,11 @@ pub enum Call {
     },
 }
 
-fn copied_list(alloc: Global, prefix: &Text, after: &Text, max: u32) -> Result<Call, AllocError>
-    ensures { IfOk result (λ copied. copied ≡ List prefix.now after.now max) }
+fn shared_list(prefix: &Text, after: &Text, max: u32) -> Result<Call, AllocError>
+    ensures { IfOk result (λ shared. shared ≡ List prefix.now after.now max) }
 {
-    let prefix = Text::copy(alloc, prefix.as_str())?;
-    match Text::copy(alloc, after.as_str()) {
+    let prefix = prefix.share()?;
+    match after.share() {
         Ok(after) => Ok(Call::List { prefix, after, max }),
         Err(error) => {
             drop(prefix);
@@ -75,11 +75,11 @@ fn copied_list(alloc: Global, prefix: &Text, after: &Text, max: u32) -> Result<C
     }
 }
 
-fn copied_put(alloc: Global, key: &Key, bytes: &Bytes) -> Result<Call, AllocError>
-    ensures { IfOk result (λ copied. copied ≡ Put key.now bytes.now) }
+fn shared_put(key: &Key, bytes: &Bytes) -> Result<Call, AllocError>
+    ensures { IfOk result (λ shared. shared ≡ Put key.now bytes.now) }
 {
     let bytes = bytes.clone()?;
-    match key.copy(alloc) {
+    match key.share() {
         Ok(key) => Ok(Call::Put { key, bytes }),
         Err(error) => {
             drop(bytes);
@@ -89,27 +89,27 @@ fn copied_put(alloc: Global, key: &Key, bytes: &Bytes) -> Result<Call, AllocErro
 }
 
 impl Call {
-    /// An equal call. Bytes are shared and not copied.
-    pub fn copy(&self, alloc: Global) -> Result<Self, AllocError>
-        ensures { IfOk result (λ copied. copied ≡ self.now) }
+    /// An equal call that shares its texts and bytes. Takes no memory: an error says that they have too many owners.
+    pub fn share(&self) -> Result<Self, AllocError>
+        ensures { IfOk result (λ shared. shared ≡ self.now) }
     {
         match self {
             Call::Head { key } => {
-                let key = key.copy(alloc)?;
+                let key = key.share()?;
                 Ok(Call::Head { key })
             }
             Call::Probe { key } => {
-                let key = key.copy(alloc)?;
+                let key = key.share()?;
                 Ok(Call::Probe { key })
             }
-            Call::List { prefix, after, max } => copied_list(alloc, prefix, after, *max),
+            Call::List { prefix, after, max } => shared_list(prefix, after, *max),
             Call::Get {
                 key,
                 etag,
                 from,
                 to,
             } => {
-                let key = key.copy(alloc)?;
+                let key = key.share()?;
                 Ok(Call::Get {
                     key,
                     etag: etag.copy(),
@@ -118,12 +118,12 @@ impl Call {
                 })
             }
             Call::Delete { key } => {
-                let key = key.copy(alloc)?;
+                let key = key.share()?;
                 Ok(Call::Delete { key })
             }
-            Call::Put { key, bytes } => copied_put(alloc, key, bytes),
+            Call::Put { key, bytes } => shared_put(key, bytes),
             Call::Create { key } => {
-                let key = key.copy(alloc)?;
+                let key = key.share()?;
                 Ok(Call::Create { key })
             }
             Call::Part {
