@@ -1,6 +1,6 @@
 //! The rules of a file system over a bucket: which names there are, which key a path has, what stands below what,
 //! what hides what, and in which order names come.
-//! Nothing here knows of requests, of the bucket's calls or of records. Only `key_of`, and a fact that is kept, take memory.
+//! Nothing here knows of requests, of the bucket's calls or of records. Only a fact that is kept takes memory.
 #![tactic(auto)]
 
 mod entry;

@@ -110,6 +110,13 @@ impl FilePath {
         })
     }
 
+    /// The text of `as_key`, which its owners share.
+    pub fn as_text(&self) -> &Text
+        ensures { result.now ≡ joined self.now }
+    {
+        &self.text
+    }
+
     /// Whether the path has no names.
     pub fn is_root(&self) -> bool
         ensures { result ≡ (length self.now == 0) }
