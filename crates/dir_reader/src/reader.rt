@@ -37,12 +37,12 @@ impl Model for DirReader {
     ghost view = { λ a. record { prefix = a.prefix; found = found_in a.names; after = a.after; more = a.more } };
 }
 
-/// The call for the page of a directory's items behind a text.
-pub fn page_call(alloc: Global, prefix: &str, after: &str, max: u32) -> Result<Call, AllocError>
+/// The call for the page of a directory's items behind a text. It shares both texts, and takes no memory.
+pub fn page_call(prefix: &Text, after: &Text, max: u32) -> Result<Call, AllocError>
     ensures { IfOk result (λ made. made ≡ call.List prefix.now after.now max) }
 {
-    let prefix = Text::copy(alloc, prefix)?;
-    match Text::copy(alloc, after) {
+    let prefix = prefix.share()?;
+    match after.share() {
         Ok(after) => Ok(Call::List { prefix, after, max }),
         Err(error) => {
             drop(prefix);
@@ -56,11 +56,11 @@ pub fn prefix_text(alloc: Global, path: &FilePath) -> Result<Text, AllocError>
     ensures { IfOk result (λ prefix. prefix ≡ prefix_of path.now) }
 {
     if path.is_root() {
-        return Ok(Text::new(alloc));
+        return Ok(Text::new());
     }
     let mut text = String::from_str(alloc, path.as_key())?;
     match text.push_str("/") {
-        Ok(()) => Ok(Text::from_string(text)),
+        Ok(()) => Text::from_string(text),
         Err(error) => {
             drop(text);
             Err(error)
@@ -69,17 +69,17 @@ pub fn prefix_text(alloc: Global, path: &FilePath) -> Result<Text, AllocError>
 }
 
 // The text by which an item is ordered.
-fn item_text(item: &PageItem) -> &str
+fn item_text(item: &PageItem) -> &Text
     ensures { result.now ≡ text_of item.now }
 {
     match item {
-        PageItem::Object { key, .. } => key.as_str(),
-        PageItem::Prefix(text) => text.as_str(),
+        PageItem::Object { key, .. } => key.as_text(),
+        PageItem::Prefix(text) => text,
     }
 }
 
 /// The text of the last item, if there are any.
-pub fn last_text_of(items: &[PageItem]) -> Option<&str>
+pub fn last_text_of(items: &[PageItem]) -> Option<&Text>
     ensures { (after : List ℕ) → last_text after items.now ≡ option_map_or (λ text. text.now) result after }
 {
     match items.last() {
@@ -96,7 +96,7 @@ impl DirReader {
         Ok(DirReader {
             alloc,
             prefix: prefix_text(alloc, path)?,
-            after: Text::new(alloc),
+            after: Text::new(),
             more: true,
             names: BTreeMap::new(alloc),
         })
@@ -109,7 +109,7 @@ impl DirReader {
         let items = page.items.as_slice();
         show_items(&mut self.names, self.alloc, self.prefix.as_str(), items)?;
         if let Some(last) = last_text_of(items) {
-            self.after = Text::copy(self.alloc, last)?;
+            self.after = last.share()?;
         }
         self.more = page.more;
         Ok(())
@@ -122,7 +122,7 @@ impl DirReader {
         if !self.more {
             return Ok(None);
         }
-        Ok(Some(page_call(self.alloc, self.prefix.as_str(), self.after.as_str(), max)?))
+        Ok(Some(page_call(&self.prefix, &self.after, max)?))
     }
 
     /// The directory's names, in order: those that the pages showed, and the mount's own.
