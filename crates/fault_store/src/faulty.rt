@@ -27,7 +27,6 @@ pub struct Faulty<S> {
     calls: u64,
     failed: u64,
     log: Vec<Logged>,
-    alloc: Global,
 }
 
 // When each listed call fails: of two entries for one number the first.
@@ -83,7 +82,6 @@ impl<S: Store + Drop> Faulty<S> {
             calls: 0,
             failed: 0,
             log: Vec::new(alloc),
-            alloc,
         })
     }
 }
@@ -115,7 +113,7 @@ impl<S: Store> Faulty<S> {
         ensures keeps { KeepsNumbers self.old self.new }
         ensures grows { self.old.failed ≤ self.new.failed }
     {
-        let asked = match call.copy(self.alloc) {
+        let asked = match call.share() {
             Ok(asked) => asked,
             Err(_) => {
                 drop(call);

@@ -1,4 +1,4 @@
-ghost use Rattle.std.specs.Prelude.{◌≡◌, ◌++◌, ◌∷◌, [], length, drop, IfOk, OnOk, MatchOption, Some, None, true, false, string_bytes};
+ghost use Rattle.std.specs.Prelude.{◌≡◌, ◌++◌, ◌∷◌, [], List, ℕ, length, drop, IfOk, OnOk, MatchOption, Some, None, true, false, string_bytes};
 ghost use Rattle.std.specs.BTreeMap.{IsOrdered};
 ghost use Rattle.std.specs.BTreeMap.Range.{entries_between};
 ghost use Rattle.std.specs.Cmp.Lexicographic.{slice_cmp};
@@ -26,6 +26,15 @@ fn before_slash(text: &str) -> Option<&str>
     }
 }
 
+// What keys share with this one, up to the `/` behind the name, which stands in it behind the prefix: a front of the key.
+fn shared_front(key: &Text, prefix: &Text, name: &str) -> Result<Text, AllocError>
+    requires { (rest : List ℕ) × (key.now ≡ prefix.now ++ rest) × (up_to_slash rest ≡ Some (name.now ++ 47 ∷ [])) }
+    ensures { IfOk result (λ front. front ≡ prefix.now ++ (name.now ++ 47 ∷ [])) }
+{
+    let _text = key.as_str();
+    key.front(prefix.as_str().len() + name.len() + 1)
+}
+
 fn add_texts(text: &mut String, first: &str, second: &str, third: &str) -> Result<(), AllocError>
     ensures { OnOk result (string_bytes text.new ≡ string_bytes text.old ++ (first.now ++ (second.now ++ third.now))) }
 {
@@ -34,19 +43,14 @@ fn add_texts(text: &mut String, first: &str, second: &str, third: &str) -> Resul
     text.push_str(third)
 }
 
-// The texts joined. There is room for so many bytes at first.
-fn joined(
-    alloc: Global,
-    room: usize,
-    prefix: &str,
-    name: &str,
-    end: &str,
-) -> Result<Text, AllocError>
-    ensures { IfOk result (λ text. text ≡ prefix.now ++ (name.now ++ end.now)) }
+// A text behind all keys that begin with the prefix, the name and a `/`, and before what comes behind them: of all bytes,
+// `0` is the next one. There is room for so many bytes at first.
+fn past_text(alloc: Global, room: usize, prefix: &str, name: &str) -> Result<Text, AllocError>
+    ensures { IfOk result (λ text. text ≡ prefix.now ++ (name.now ++ 48 ∷ [])) }
 {
     let mut text = String::with_capacity(alloc, room)?;
-    match add_texts(&mut text, prefix, name, end) {
-        Ok(()) => Ok(Text::from_string(text)),
+    match add_texts(&mut text, prefix, name, "0") {
+        Ok(()) => Text::from_string(text),
         Err(error) => {
             drop(text);
             Err(error)
@@ -54,7 +58,7 @@ fn joined(
     }
 }
 
-// The entries behind all keys that begin with the prefix, the name and a `/`: of all bytes, `0` is the next one.
+// The entries behind all keys that begin with the prefix, the name and a `/`.
 fn entries_past<'a>(
     objects: &'a BTreeMap<Text, Object>,
     alloc: Global,
@@ -65,7 +69,7 @@ fn entries_past<'a>(
     ensures from { IfOk result (λ entries. entries ≡ entries_between (slice_cmp nat_cmp) (Included (prefix.now ++ (name.now ++ 48 ∷ []))) Unbounded objects.now.entries) }
     ensures ordered { IfOk result (λ _. IsOrdered (slice_cmp nat_cmp) objects.now) }
 {
-    let next = joined(alloc, room, prefix, name, "0")?;
+    let next = past_text(alloc, room, prefix, name)?;
     let entries = objects.range((Bound::Included(&next), Bound::Unbounded));
     drop(next);
     Ok(entries)
@@ -99,12 +103,12 @@ fn entries_behind<'a>(
     }
 }
 
-fn object_item(alloc: Global, key: &Text, object: &Object) -> Result<PageItem, AllocError>
+fn object_item(key: &Text, object: &Object) -> Result<PageItem, AllocError>
     requires { IsKeyText key.now }
     ensures { IfOk result (λ made. made ≡ item.Object key.now object.now.etag (length object.now.bytes)) }
 {
     Ok(PageItem::Object {
-        key: Key::of(alloc, key.as_str())?,
+        key: Key::from_text(key.share()?),
         etag: object.etag.copy(),
         size: object.bytes.len() as u64,
     })
@@ -134,11 +138,11 @@ fn add_items(
             return Ok(true);
         }
         let Some(name) = before_slash(rest) else {
-            items.push(object_item(alloc, key, object)?)?;
+            items.push(object_item(key, object)?)?;
             continue;
         };
+        items.push(PageItem::Prefix(shared_front(key, prefix, name)?))?;
         let room = key.as_str().len();
-        items.push(PageItem::Prefix(joined(alloc, room, prefix.as_str(), name, "/")?))?;
         entries = entries_past(objects, alloc, room, prefix.as_str(), name)?;
     }
     Ok(false)

@@ -35,7 +35,7 @@ fn directory_text(alloc: Global, key: &Key) -> Result<Text, AllocError>
 {
     let mut text = String::from_str(alloc, key.as_str())?;
     match text.push_str("/") {
-        Ok(()) => Ok(Text::from_string(text)),
+        Ok(()) => Text::from_string(text),
         Err(error) => {
             drop(text);
             Err(error)
@@ -119,7 +119,6 @@ fn version_etag(alloc: Global, number: u64) -> Result<ETag, AllocError>
 // Puts an object at the key. Want of memory changes nothing.
 fn put_object(
     objects: &mut BTreeMap<Text, Object>,
-    alloc: Global,
     key: &Key,
     object: Object,
 ) -> Result<(), AllocError>
@@ -127,7 +126,7 @@ fn put_object(
     ensures fits { OnOk result (IsKeyText key.now) }
     ensures err { OnErr result (IsUnchanged objects.old objects.new) }
 {
-    match Text::copy(alloc, key.as_str()) {
+    match key.as_text().share() {
         Ok(text) => {
             drop(objects.insert(text, object)?);
             Ok(())
@@ -164,7 +163,7 @@ pub fn put_version(
         etag: etag.copy(),
         bytes,
     };
-    match put_object(objects, alloc, key, object) {
+    match put_object(objects, key, object) {
         Ok(()) => Ok(etag),
         Err(error) => {
             drop(etag);

@@ -76,7 +76,7 @@ impl Uploads {
         ensures ok { OnOk result (self.new ≡ map.insert self.old upload (record { key = key.now; parts = map.empty })) }
         ensures err { OnErr result (self.new ≡ self.old) }
     {
-        let key = key.copy(alloc)?;
+        let key = key.share()?;
         let staged = StagedUpload {
             key,
             parts: Parts::new(alloc),

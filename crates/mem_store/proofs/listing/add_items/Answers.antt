@@ -39,17 +39,20 @@ pub loop-key-smaller : goal.loop-key-smaller
 loop-key-smaller c =
     passes_some c.in-Some.key.now c.in-Some-behind.rest.now c.in-Some-before_slash.name.now c.in-Some.object.now c.next.new.self c.in_ok-entries-2.entries c.loop-key.invariant c.in-Some.ensures.steps
     (sym c.as_str.ensures ∙ c.in-Some-behind.ensures ∙ ap (λ p. p ++ c.in-Some-behind.rest.now) c.as_str-in-Some.ensures) c.in-Some-before_slash.ensures
-    (c.in_ok-entries-2.ensures.from ∙ ap (λ p. entries_between (slice_cmp nat_cmp) (Included (p ++ (c.in-Some-before_slash.name.now ++ 48 ∷ []))) Unbounded c.args.objects.now.entries) c.as_str-in-Some-3.ensures)
+    (c.in_ok-entries-2.ensures.from ∙ ap (λ p. entries_between (slice_cmp nat_cmp) (Included (p ++ (c.in-Some-before_slash.name.now ++ 48 ∷ []))) Unbounded c.args.objects.now.entries) c.as_str-in-Some-2.ensures)
 
 pub loop-key-preserved : goal.loop-key-preserved
 loop-key-preserved c =
-    prefix_listed c.in-Some.key.now c.in-Some-behind.rest.now c.in-Some-before_slash.name.now c.in_ok-joined.field-0 c.in-Some.object.now c.next.new.self c.in_ok-entries-2.entries c.push-in-Some.new.self.items c.loop-key.invariant
+    prefix_listed c.in-Some.key.now c.in-Some-behind.rest.now c.in-Some-before_slash.name.now c.in_ok-shared_front.field-0 c.in-Some.object.now c.next.new.self c.in_ok-entries-2.entries c.push-in-Some.new.self.items c.loop-key.invariant
     c.in-Some.ensures.steps (sym c.as_str.ensures ∙ c.in-Some-behind.ensures ∙ ap (λ p. p ++ c.in-Some-behind.rest.now) c.as_str-in-Some.ensures) c.in-Some-before_slash.ensures
-    (λ full. omega (arith, c.if-len-max.false, c.len.ensures, full, c.loop-key.items.ok.0)) (c.in_ok-joined.ensures ∙ ap (λ p. p ++ (c.in-Some-before_slash.name.now ++ 47 ∷ [])) c.as_str-in-Some-2.ensures)
-    (c.in_ok-entries-2.ensures.from ∙ ap (λ p. entries_between (slice_cmp nat_cmp) (Included (p ++ (c.in-Some-before_slash.name.now ++ 48 ∷ []))) Unbounded c.args.objects.now.entries) c.as_str-in-Some-3.ensures) c.in_ok-push-2.ensures.items
+    (λ full. omega (arith, c.if-len-max.false, c.len.ensures, full, c.loop-key.items.ok.0)) c.in_ok-shared_front.ensures
+    (c.in_ok-entries-2.ensures.from ∙ ap (λ p. entries_between (slice_cmp nat_cmp) (Included (p ++ (c.in-Some-before_slash.name.now ++ 48 ∷ []))) Unbounded c.args.objects.now.entries) c.as_str-in-Some-2.ensures) c.in_ok-push-2.ensures.items
 
 pub returns-clause-page : goal.returns-clause-page
 returns-clause-page c = listing_ends _ c.loop-key.invariant c.in_default.ensures.steps.0 refl
 
 pub returns-clause-ordered : goal.returns-clause-ordered
 returns-clause-ordered c = c.loop-key.invariant.stand.ordered
+
+pub shared_front-requires : goal.shared_front-requires
+shared_front-requires c = (c.in-Some-behind.rest.now, sym c.as_str.ensures ∙ c.in-Some-behind.ensures ∙ ap (λ p. p ++ c.in-Some-behind.rest.now) c.as_str-in-Some.ensures, c.in-Some-before_slash.ensures)
