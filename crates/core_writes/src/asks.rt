@@ -11,7 +11,7 @@ use bucket_model::Call;
 use job_table::{Asking, Jobs, Journal, Purpose};
 use mount_model::{AskedCall, Owner, Writer};
 use part_uploader::Uploader;
-use std::alloc::{AllocError, Global};
+use std::alloc::AllocError;
 use upload_rules::UpAsk;
 
 // The upload's id, which all its calls but the first tell.
@@ -24,12 +24,11 @@ fn id_of(uploader: &Uploader) -> u64
     }
 }
 
-// The call that is due, as the bucket gets it and as the record tells it, and what it is for. The bytes of a part are
-// shared with the writer until it is asked for.
+// The call that is due, as the bucket gets it and as the record tells it, and what it is for. Both share the writer's key.
+// The bytes of a part are shared with the writer until it is asked for.
 fn calls(
     writer: &mut Writer<Uploader>,
     ask: UpAsk,
-    alloc: Global,
 ) -> Result<(Call, AskedCall, Purpose), AllocError>
     requires { due writer.old.upload ≡ Some ask }
     ensures kept { writer.new ≡ writer.old }
@@ -40,8 +39,8 @@ fn calls(
     let upload = id_of(&writer.upload);
     match ask {
         UpAsk::Create => {
-            let key = writer.key.copy(alloc)?;
-            let told = match writer.key.copy(alloc) {
+            let key = writer.key.share()?;
+            let told = match writer.key.share() {
                 Ok(told) => told,
                 Err(error) => {
                     drop(key);
@@ -85,12 +84,12 @@ fn calls(
 }
 
 // The job that is due.
-fn job(writer: &mut Writer<Uploader>, ask: UpAsk, alloc: Global) -> Result<Asking, AllocError>
+fn job(writer: &mut Writer<Uploader>, ask: UpAsk) -> Result<Asking, AllocError>
     requires { due writer.old.upload ≡ Some ask }
     ensures kept { writer.new ≡ writer.old }
     ensures job { IfOk result (λ job. job ≡ job_for writer.old.line (asking_for writer.old.key writer.old.upload ask)) }
 {
-    let (call, asked, purpose) = calls(writer, ask, alloc)?;
+    let (call, asked, purpose) = calls(writer, ask)?;
     Ok(Asking {
         owner: Owner::Writer(writer.line),
         line: writer.line,
@@ -107,7 +106,6 @@ fn ask_one(
     journal: &mut Journal,
     owed: &mut usize,
     ask: UpAsk,
-    alloc: Global,
 ) -> Result<(), AllocError>
     requires step { HasStep journal.old.steps }
     requires enough { owed.old ≤ journal.old.room }
@@ -119,7 +117,7 @@ fn ask_one(
     ensures stays { OnErr result (writer.new.upload ≡ writer.old.upload) }
     ensures unasked { OnErr result (HasJobs writer.old.line [] jobs.old jobs.new journal.old journal.new) }
 {
-    let job = job(writer, ask, alloc)?;
+    let job = job(writer, ask)?;
     jobs.ask(journal, *owed, job)?;
     writer.upload.asked();
     *owed += 2;
@@ -143,7 +141,6 @@ pub fn ask_all(
     jobs: &mut Jobs,
     journal: &mut Journal,
     owed: &mut usize,
-    alloc: Global,
 )
     requires step { HasStep journal.old.steps }
     requires enough { owed.old ≤ journal.old.room }
@@ -154,7 +151,7 @@ pub fn ask_all(
     ensures asks { AsksAll writer.old writer.new.upload jobs.old jobs.new journal.old journal.new }
 {
     while let Some(ask) = next_call(&writer.upload) {
-        match ask_one(writer, jobs, journal, owed, ask, alloc) {
+        match ask_one(writer, jobs, journal, owed, ask) {
             Ok(()) => {}
             Err(_) => {
                 writer.upload.lack();
@@ -170,7 +167,6 @@ pub fn give_up(
     jobs: &mut Jobs,
     journal: &mut Journal,
     owed: &mut usize,
-    alloc: Global,
 )
     requires step { HasStep journal.old.steps }
     requires enough { owed.old ≤ journal.old.room }
@@ -181,7 +177,7 @@ pub fn give_up(
     let Some(UpAsk::Abort) = writer.upload.next_ask() else {
         return;
     };
-    match ask_one(writer, jobs, journal, owed, UpAsk::Abort, alloc) {
+    match ask_one(writer, jobs, journal, owed, UpAsk::Abort) {
         Ok(()) => {}
         Err(_) => {}
     }

@@ -11,7 +11,6 @@ use crate::drops::drop_ready;
 use job_table::{Jobs, Journal};
 use mount_model::{Answered, Reply, Waiter, Writer};
 use part_uploader::Uploader;
-use std::alloc::Global;
 use upload_rules::UpState;
 
 fn sync_answer(line: u32, state: UpState) -> Option<Answered>
@@ -60,7 +59,6 @@ pub fn take_turn(
     jobs: &mut Jobs,
     journal: &mut Journal,
     owed: &mut usize,
-    alloc: Global,
 ) -> Option<Answered>
     requires step { HasStep journal.old.steps }
     requires owes { owes_jobs jobs.old.held ≤ owed.old }
@@ -72,8 +70,8 @@ pub fn take_turn(
     ensures owes { (others : ℕ) → others + owes_jobs jobs.old.held ≤ owed.old → others + owes_jobs jobs.new.held ≤ owed.new }
     ensures turn { Turns writer.old jobs.old jobs.new journal.old.steps journal.new.steps writer.new.upload result }
 {
-    ask_all(writer, jobs, journal, owed, alloc);
+    ask_all(writer, jobs, journal, owed);
     drop_ready(writer, jobs, journal, owed);
-    give_up(writer, jobs, journal, owed, alloc);
+    give_up(writer, jobs, journal, owed);
     answer(writer.waiter, &writer.upload)
 }
