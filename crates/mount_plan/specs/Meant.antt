@@ -1,5 +1,7 @@
 -- What a plan says that a line does next.
-use Rattle.std.specs.Prelude.{◌≡◌, ℕ, ◌<◌, Option, None, Some, option_copied}
+use Rattle.std.specs.Prelude.{◌≡◌, ℕ, ◌<◌, List, [], Option, None, Some, option_copied}
+use Rattle.std.specs.Borrow.{Bor}
+use Rattle.std.specs.Option.{option_map_or}
 use Rattle.mp_types.specs.Content.{bytes_of}
 use Rattle.mp_types.specs.Key.{IsKeyText}
 use Rattle.mp_rules.specs.QuestionRef.{as_question, key_in}
@@ -24,10 +26,14 @@ abbrev pub with_last : Option Told → Heard → Heard
 with_last None heard = heard
 with_last (Some told) heard = with_told told heard
 
+-- the text behind which a page is asked for: the empty one stands before all items
+abbrev pub text_behind : Option (Bor (List ℕ)) → List ℕ
+text_behind after = option_map_or (λ text. text.now) after []
+
 -- a key that stands in a path is as long as a key may be, and a range that is asked for has at least one
 abbrev pub MeansOne : LinePlan → Next → Type 0
 MeansOne (Ask asked) next = (next ≡ Asks (call_of (as_question asked))) × IsKeyText (key_in asked)
-MeansOne (Page path after max) next = next ≡ Asks (call.List (prefix_of path.now) after.now max)
+MeansOne (Page path after max) next = next ≡ Asks (call.List (prefix_of path.now) (text_behind after) max)
 MeansOne (Get version from to) next = (next ≡ Asks (call.Get version.now.key version.now.etag from to)) × (from < to)
 MeansOne (Put key content) next = next ≡ Asks (call.Put key.now (bytes_of content.now))
 MeansOne (Delete key) next = next ≡ Asks (call.Delete key.now)

@@ -58,7 +58,7 @@ fn page_plan<'a>(
     }
     LinePlan::Page {
         path,
-        after: last_text_of(page.items.as_slice()).unwrap_or(""),
+        after: last_text_of(page.items.as_slice()),
         max: view.options.page,
     }
 }
@@ -84,7 +84,7 @@ fn first_page(path: &FilePath, max: u32) -> LinePlan<'_>
 {
     LinePlan::Page {
         path,
-        after: "",
+        after: None,
         max,
     }
 }

@@ -3,7 +3,7 @@ ghost use Rattle.std.specs.Prelude.{◌≡◌};
 use local_names::Locals;
 use mount_model::{Heard, Reply, Told, Version, Writer};
 use mp_rules::QuestionRef;
-use mp_types::{Data, ETag, Errno, FilePath, Key};
+use mp_types::{Data, ETag, Errno, FilePath, Key, Text};
 use part_uploader::Uploader;
 
 /// What a line does next, or the writer of the handle that it names.
@@ -33,10 +33,10 @@ pub enum Plan<'a> {
 pub enum LinePlan<'a> {
     /// It asks this about a key of 1 to 1,024 bytes.
     Ask(QuestionRef<'a>),
-    /// It asks for a page of at most `max` items of the directory at this path, behind a text.
+    /// It asks for a page of at most `max` items of the directory at this path, behind a text, or for the first one.
     Page {
         path: &'a FilePath,
-        after: &'a str,
+        after: Option<&'a Text>,
         max: u32,
     },
     /// It asks for the bytes `from..to` of this version. `from` is less than `to`.
