@@ -420,10 +420,8 @@ page_line old ended n position answer page who line purpose core is parts brings
       stands = ap (line_at line) (parts.lines ∙ core.lines) ∙ (ap (λ k. line_at k (state_of (core_of old)).lines) is.line_is ∙ lists.stands);
       heard = lists.heard;
       phase = lists.begun;
-      path = lists.listing.path;
-      lists = lists.listing.lists;
       names = lists.listing.names;
-      fine = lists.listing.fine;
+      lists = lists.listing.lists;
     }
 
 other_asks : (called : Call) → table.purpose_of called ≡ Other → None ≡ question_of called

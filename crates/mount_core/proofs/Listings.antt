@@ -87,7 +87,6 @@ fails_listing n page bytes errno more old new listing is_more is answers same =
     let next : next_behind n last old ≡ behind_tests more few lists asks =
     next-seen n last old begun
     ∙ ap (λ r. next_of view r (with_told (Hears (answer.Page page)) listing.heard)) listing.lists
-    ∙ ap (λ path. list_next view path (with_told (Hears (answer.Page page)) listing.heard)) listing.fine
     ∙ behind-last view listing.names listing.heard page
     ∙ page-tests view prefix before page more is_more in
     let said : Answers (record { line = n; reply = reply.Failed (unkept_tests more few) } ∷ []) old new = subst (λ e. Answers (record { line = n; reply = reply.Failed e } ∷ []) old new) is answers in

@@ -3,7 +3,7 @@ use Rattle.std.proofs.Common.{◌≡◌, ◌≢◌, ℕ, Bool, true, false, not,
 use Rattle.std.proofs.lemmas.Bool.{eqb-false}
 use Rattle.mp_types.specs.declared.errno.Errno.TheVariants.{Eperm, Eexist, Eisdir, Emfile, Enotempty, Eoverflow}
 use Rattle.mp_types.specs.declared.path.PathFault.{PathFault}
-use Rattle.mp_types.specs.Path.{path_of, joined}
+use Rattle.mp_types.specs.Path.{joined}
 use Rattle.mp_types.specs.Content.{bytes_of}
 use Rattle.mp_types.specs.HandleName.{max_handles}
 use Rattle.mp_rules.specs.declared.entry.Entry.{Entry}
@@ -152,11 +152,11 @@ remove_at-fits view r key removes (LocalFile size) = tt
 remove_at-fits view r key removes (File etag size) = tt
 remove_at-fits view r key removes Nothing = tt
 
-remove-fits : (view : View) (text : List ℕ) (path : Result (List (List ℕ)) PathFault) (heard : Heard) → path_of text ≡ path → Fits view (request.RemoveDir text) (remove_next view path heard)
-remove-fits view text (Err why) heard is = tt
-remove-fits view text (Ok names) heard is =
-    along-fits view (request.RemoveDir text) (fails Eperm) (remove_at view.names (joined names)) names heard tt
-    (remove_at-fits view (request.RemoveDir text) (joined names) (record { path = text; is = refl; names = names; path_is = is; key_is = refl }))
+remove-fits : (view : View) (path : Result (List (List ℕ)) PathFault) (heard : Heard) → Fits view (request.RemoveDir path) (remove_next view path heard)
+remove-fits view (Err why) heard = tt
+remove-fits view (Ok names) heard =
+    along-fits view (request.RemoveDir (Ok names)) (fails Eperm) (remove_at view.names (joined names)) names heard tt
+    (remove_at-fits view (request.RemoveDir (Ok names)) (joined names) (record { names = names; is = refl; key_is = refl }))
 
 unlink_at-fits : (view : View) (r : Request) (may_delete : Bool) (key : List ℕ) → FitAt view r (unlink_at may_delete key)
 unlink_at-fits view r may_delete key RemoteDir = tt
@@ -278,19 +278,19 @@ close-fits view r line (Some (Writing w)) = tt
 next-fits : (view : View) (r : Request) (heard : Heard) → Fits view r (next_of view r heard)
 next-fits view (request.Put key content) heard = put-fits view (request.Put key content) key (bytes_of content) heard.answers
 next-fits view request.Await heard = tt
-next-fits view (request.Stat path) heard = stat-fits view (request.Stat path) (path_of path) heard
-next-fits view (request.List path) heard = list-fits view (request.List path) (path_of path) heard
-next-fits view (request.OpenRead name path) heard = open-fits open_at view (request.OpenRead name path) (path_of path) heard view.handle (open_at-fits view (request.OpenRead name path))
-next-fits view (request.OpenWrite name path) heard = open-fits (create_at false) view (request.OpenWrite name path) (path_of path) heard view.handle (create_at-fits view (request.OpenWrite name path) false)
-next-fits view (request.OpenTruncate name path) heard = open-fits (create_at view.options.allow_overwrite) view (request.OpenTruncate name path) (path_of path) heard view.handle (create_at-fits view (request.OpenTruncate name path) view.options.allow_overwrite)
+next-fits view (request.Stat path) heard = stat-fits view (request.Stat path) path heard
+next-fits view (request.List path) heard = list-fits view (request.List path) path heard
+next-fits view (request.OpenRead name path) heard = open-fits open_at view (request.OpenRead name path) path heard view.handle (open_at-fits view (request.OpenRead name path))
+next-fits view (request.OpenWrite name path) heard = open-fits (create_at false) view (request.OpenWrite name path) path heard view.handle (create_at-fits view (request.OpenWrite name path) false)
+next-fits view (request.OpenTruncate name path) heard = open-fits (create_at view.options.allow_overwrite) view (request.OpenTruncate name path) path heard view.handle (create_at-fits view (request.OpenTruncate name path) view.options.allow_overwrite)
 next-fits view (request.Read name offset count) heard = read-fits view (request.Read name offset count) view.handle offset count heard.answers
 next-fits view (request.Write name offset content) heard = write-fits view (request.Write name offset content) view.handle offset (bytes_of content)
 next-fits view (request.Sync name) heard = sync-fits view (request.Sync name) view.line view.handle
 next-fits view (request.Close name) heard = close-fits view (request.Close name) view.line view.handle
 next-fits view (request.Delete key) heard = delete-fits view (request.Delete key) key heard.answers
-next-fits view (request.MakeDir path) heard = make-fits view (request.MakeDir path) (path_of path) heard
-next-fits view (request.RemoveDir path) heard = remove-fits view path (path_of path) heard refl
-next-fits view (request.Unlink path) heard = unlink-fits view (request.Unlink path) (path_of path) heard
+next-fits view (request.MakeDir path) heard = make-fits view (request.MakeDir path) path heard
+next-fits view (request.RemoveDir path) heard = remove-fits view path heard
+next-fits view (request.Unlink path) heard = unlink-fits view (request.Unlink path) path heard
 
 pub opens_fits : (view : View) (r : Request) (heard : Heard) (version : Version) → next_of view r heard ≡ Opens version → view.live ≢ max_handles
 opens_fits view r heard version is = subst (Fits view r) is (next-fits view r heard)

@@ -3,8 +3,7 @@ use Rattle.std.proofs.Common.{◌≡◌, ℕ, ◌+◌, List, [], ◌∷◌, ◌+
 use Rattle.std.specs.FinMap as table
 use Rattle.std.proofs.lemmas.List.Sums.{fold-append}
 use Rattle.bucket_model.specs.declared.call.Call.{Call}
-use Rattle.mp_types.specs.Path.{IsPathText, joined, names_in, path_of}
-use Rattle.mp_types.proofs.Paths.{joined_is}
+use Rattle.mp_types.specs.Path.{joined}
 use Rattle.mp_types.specs.declared.errno.Errno.TheVariants.{Enomem}
 use Rattle.mp_rules.specs.Local.{LocalNames}
 use Rattle.local_names.specs.Names.{is_name}
@@ -256,17 +255,15 @@ removes_dir n last work key begun removes = record {
   removes = removes_fits (view_of (shared_in work) begun.standing.line) begun.standing.line.request _ key (next_seen n last work begun (Removes key) removes);
 }
 
--- the text behind the first `/` of its path is the key
-pub key_below : (n : ℕ) (lines : List Standing) (s : Standing) (path text below key : List ℕ) → Some s ≡ line_at n lines → s.line.request ≡ RemoveDir path → text ≡ path → IsPathText text below → RemovesDir n key lines → below ≡ key
-key_below n lines s path text below key stands asks is named dir =
+-- the key of its path is that key
+pub key_removed : (n : ℕ) (lines : List Standing) (s : Standing) (names : List (List ℕ)) (key : List ℕ) → Some s ≡ line_at n lines → s.line.request ≡ RemoveDir (Ok names) → RemovesDir n key lines → joined names ≡ key
+key_removed n lines s names key stands asks dir =
     let found : Some dir.standing ≡ Some s = sym dir.stands ∙ sym stands in
     let standing : dir.standing ≡ s = cc in
     let removes = dir.removes in
-    let request : RemoveDir removes.path ≡ RemoveDir path = sym removes.is ∙ (ap (λ (t : Standing). t.line.request) standing ∙ asks) in
-    let same : removes.path ≡ path = cc in
-    let both : Ok removes.names ≡ Ok (names_in below) = sym removes.path_is ∙ (ap path_of (same ∙ sym is) ∙ named.0) in
-    let names : removes.names ≡ names_in below = cc in
-    sym (removes.key_is ∙ (ap joined names ∙ joined_is below))
+    let request : RemoveDir (Ok removes.names) ≡ RemoveDir (Ok names) = sym removes.is ∙ (ap (λ (t : Standing). t.line.request) standing ∙ asks) in
+    let same : removes.names ≡ names = cc in
+    sym (removes.key_is ∙ ap joined same)
 
 pub plain-gives : (bytes : List ℕ) (n : ℕ) (told : Reply) → IsPlain told → GivesOnly bytes (record { line = n; reply = told })
 plain-gives bytes n (reply.Made etag) plain = tt

@@ -1,6 +1,5 @@
 -- How a line reads what it has heard of a directory, and how it ends where it can't keep a page.
 use Rattle.std.specs.Prelude.{◌≡◌, ℕ, List, Some, Ok}
-use Rattle.mp_types.specs.Path.{path_of}
 use Rattle.bucket_model.specs.declared.answer.Brief.{Brief}
 use Rattle.bucket_model.specs.declared.answer.Brief.TheVariants.{Page}
 use Rattle.mount_model.specs.declared.request.Request.TheVariants as request
@@ -21,7 +20,5 @@ pub record IsListing (number : ℕ) (lines : List Standing) : Type 0 where
   pub stands : line_at number lines ≡ Some standing
   pub heard : Heard
   pub phase : standing.phase ≡ Begun heard
-  pub path : List ℕ
-  pub lists : standing.line.request ≡ request.List path
   pub names : List (List ℕ)
-  pub fine : path_of path ≡ Ok names
+  pub lists : standing.line.request ≡ request.List (Ok names)

@@ -3,7 +3,7 @@ use Rattle.std.specs.Prelude.{◌≡◌, ◌≢◌, ℕ, ◌≤◌, List, [], �
 use Rattle.std.specs.List.{AllByRecursion}
 use Rattle.std.specs.FinMap as table
 use Rattle.mp_types.specs.HandleName.{HandleName, max_handles}
-use Rattle.mp_types.specs.Path.{path_of, joined}
+use Rattle.mp_types.specs.Path.{joined}
 use Rattle.upload_rules.specs.declared.upload.UpState.TheVariants.{Open as IsOpen}
 use Rattle.upload_rules.specs.Upload.{Upload}
 use Rattle.mount_model.specs.declared.handle.Handle.TheVariants.{Writing}
@@ -119,10 +119,8 @@ MayOpen number work = (s : Standing) → line_at number work.lines ≡ Some s �
 
 -- the request removes the directory of this key
 pub record RemovesKey (asked : Request) (key : List ℕ) : Type 0 where
-  pub path : List ℕ
-  pub is : asked ≡ RemoveDir path
   pub names : List (List ℕ)
-  pub path_is : path_of path ≡ Ok names
+  pub is : asked ≡ RemoveDir (Ok names)
   pub key_is : key ≡ joined names
 
 -- the line of this number does

@@ -1,7 +1,6 @@
-ghost use Rattle.std.specs.Prelude.{◌≡◌, ℕ, List, Option, Ok, IfOk, option_copied};
+ghost use Rattle.std.specs.Prelude.{◌≡◌, ℕ, Option, IfOk, option_copied};
 ghost use Rattle.mp_types.specs.Content.{bytes_of};
 ghost use Rattle.mp_types.specs.Key.{IsKeyText};
-ghost use Rattle.mp_types.specs.Path.{path_of};
 ghost use Rattle.bucket_model.specs.declared.call.Call.TheVariants.{Delete, Get, List as Page, Put};
 ghost use Rattle.mp_rules.specs.QuestionRef.{as_question, key_in};
 ghost use Rattle.listing_rules.specs.Names.{listing_of, prefix_of};
@@ -22,7 +21,7 @@ use local_names::Locals;
 use mount_model::{AskedCall, Handle, Heard, Owner, Reply, Request, Told, Version, Waiter};
 use mount_plan::{LinePlan, Plan, View, plan};
 use mp_rules::{DirEntry, Question, QuestionRef};
-use mp_types::{Data, ETag, Items, Key};
+use mp_types::{Data, ETag, FilePath, Items, Key};
 use part_uploader::Uploader;
 use std::alloc::{AllocError, Global};
 
@@ -103,9 +102,8 @@ fn ask(alloc: Global, line: u32, owner: Owner, asked: QuestionRef<'_>) -> Due
     })
 }
 
-fn page(alloc: Global, line: u32, owner: Owner, path: &str, after: &str, max: u32) -> Due
-    requires { (names : List (List ℕ)) × (path_of path.now ≡ Ok names) }
-    ensures means { (names : List (List ℕ)) → path_of path.now ≡ Ok names → DueMeans result owner (Asks (Page (prefix_of names) after.now max)) }
+fn page(alloc: Global, line: u32, owner: Owner, path: &FilePath, after: &str, max: u32) -> Due
+    ensures means { DueMeans result owner (Asks (Page (prefix_of path.now) after.now max)) }
     ensures whose { (number : ℕ) (asked : Request) (handle : Option HandleAt) → DueIsOf result number asked handle }
     ensures tells { DueTells result line }
 {
@@ -245,9 +243,8 @@ fn create(alloc: Global, text: &str) -> Due
     }
 }
 
-fn listed(alloc: Global, path: &str, heard: &Heard, last: Option<&Told>, names: &Locals) -> Due
-    requires { (below : List (List ℕ)) × (path_of path.now ≡ Ok below) }
-    ensures means { (owner : Owner) (below : List (List ℕ)) → path_of path.now ≡ Ok below → DueMeans result owner (Lists (listing_of (prefix_of below) (items_of (pages_in (with_last (option_copied last.entry) heard.now).answers)) names.now)) }
+fn listed(alloc: Global, path: &FilePath, heard: &Heard, last: Option<&Told>, names: &Locals) -> Due
+    ensures means { (owner : Owner) → DueMeans result owner (Lists (listing_of (prefix_of path.now) (items_of (pages_in (with_last (option_copied last.entry) heard.now).answers)) names.now)) }
     ensures whose { (number : ℕ) (asked : Request) (handle : Option HandleAt) → DueIsOf result number asked handle }
     ensures tells { (line : ℕ) → DueTells result line }
 {

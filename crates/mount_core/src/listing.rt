@@ -1,5 +1,4 @@
-ghost use Rattle.std.specs.Prelude.{◌≡◌, List, ℕ, fold, Ok, IfOk, OnOk, option_copied};
-ghost use Rattle.mp_types.specs.Path.{path_of};
+ghost use Rattle.std.specs.Prelude.{◌≡◌, fold, IfOk, OnOk, option_copied};
 ghost use Rattle.bucket_model.specs.declared.call.Call.TheVariants as call;
 ghost use Rattle.listing_rules.specs.Names.{listing_of, prefix_of};
 ghost use Rattle.listing_rules.specs.Pages.{items_of};
@@ -13,35 +12,19 @@ use dir_reader::{DirReader, page_call, prefix_text};
 use local_names::Locals;
 use mount_model::{AskedCall, Heard, Told};
 use mp_rules::DirEntry;
-use mp_types::{FilePath, Items, PathFault, Text};
+use mp_types::{FilePath, Items, Text};
 use std::alloc::{AllocError, Global};
 
-// The path of a text without fault.
-fn path_at(alloc: Global, text: &str) -> Result<FilePath, AllocError>
-    requires { (names : List (List ℕ)) × (path_of text.now ≡ Ok names) }
-    ensures { (names : List (List ℕ)) → path_of text.now ≡ Ok names → IfOk result (λ path. path ≡ names) }
-{
-    match FilePath::parse(alloc, text) {
-        Ok(path) => Ok(path),
-        Err(PathFault::Memory) => Err(AllocError),
-        Err(PathFault::Empty) => unreachable!(),
-        Err(PathFault::TooLong) => unreachable!(),
-        Err(PathFault::BadName(_)) => unreachable!(),
-    }
-}
-
-/// The call for a page of the directory at a path without fault, behind a text, and what the record tells of it.
+/// The call for a page of the directory at a path, behind a text, and what the record tells of it.
 pub fn page_calls(
     alloc: Global,
-    path: &str,
+    path: &FilePath,
     after: &str,
     max: u32,
 ) -> Result<(Call, AskedCall), AllocError>
-    requires { (names : List (List ℕ)) × (path_of path.now ≡ Ok names) }
-    ensures { (names : List (List ℕ)) → path_of path.now ≡ Ok names → IfOk result (λ calls. (calls.0 ≡ call.List (prefix_of names) after.now max) × (calls.1 ≡ asked.List (prefix_of names) after.now max)) }
+    ensures { IfOk result (λ calls. (calls.0 ≡ call.List (prefix_of path.now) after.now max) × (calls.1 ≡ asked.List (prefix_of path.now) after.now max)) }
 {
-    let path = path_at(alloc, path)?;
-    let prefix = prefix_text(alloc, &path)?;
+    let prefix = prefix_text(alloc, path)?;
     let call = page_call(alloc, prefix.as_str(), after, max)?;
     let after = Text::copy(alloc, after)?;
     Ok((call, AskedCall::List { prefix, after, max }))
@@ -77,20 +60,18 @@ fn read_heard(reader: &mut DirReader, heard: &Heard, last: Option<&Told>) -> Res
     }
 }
 
-/// The names in the directory at a path without fault: those that the pages among what was heard show, and the
+/// The names in the directory at a path: those that the pages among what was heard show, and the
 /// mount's own. It takes the time and the memory of all these names.
 pub fn listing(
     alloc: Global,
-    path: &str,
+    path: &FilePath,
     heard: &Heard,
     last: Option<&Told>,
     names: &Locals,
 ) -> Result<Items<DirEntry>, AllocError>
-    requires { (below : List (List ℕ)) × (path_of path.now ≡ Ok below) }
-    ensures { (below : List (List ℕ)) → path_of path.now ≡ Ok below → IfOk result (λ entries. entries ≡ listing_of (prefix_of below) (items_of (pages_in (with_last (option_copied last.entry) heard.now).answers)) names.now) }
+    ensures { IfOk result (λ entries. entries ≡ listing_of (prefix_of path.now) (items_of (pages_in (with_last (option_copied last.entry) heard.now).answers)) names.now) }
 {
-    let path = path_at(alloc, path)?;
-    let mut reader = DirReader::new(alloc, &path)?;
+    let mut reader = DirReader::new(alloc, path)?;
     read_heard(&mut reader, heard, last)?;
     Ok(Items::from_vec(reader.names(names)?))
 }

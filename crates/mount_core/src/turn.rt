@@ -23,7 +23,7 @@ use bytes::Bytes;
 use job_table::Asking;
 use mount_model::{Handle, Phase, Reply, Request, Told, Version};
 use mount_plan::unkept_errno;
-use mp_types::{Errno, Key, below_root};
+use mp_types::{Errno, Key};
 use std::alloc::AllocError;
 
 impl Work {
@@ -154,10 +154,8 @@ impl Work {
         let Request::RemoveDir { path } = &standing.line.request else {
             unreachable!()
         };
-        let Ok(key) = below_root(path.as_str()) else {
-            unreachable!()
-        };
-        self.names.remove(key);
+        let Ok(path) = path else { unreachable!() };
+        self.names.remove(path.as_key());
     }
 
     /// The directory that the line removes goes. Takes no memory.
