@@ -7,14 +7,14 @@ use bucket_model::Brief;
 use line_table::Lines;
 use mount_model::{Line, Phase, Request, Script, Told};
 use mp_rules::{Fact, Known, Question};
-use mp_types::{Items, Key, Text};
+use mp_types::{FilePath, Items, Key};
 use std::alloc::Global;
 
 fn request(alloc: Global, word: &str) -> Option<Request> {
     match word {
         "await" => Some(Request::Await),
         "stat" => Some(Request::Stat {
-            path: Text::copy(alloc, "/a").ok()?,
+            path: Ok(FilePath::parse(alloc, "/a").ok()?),
         }),
         _ => None,
     }

@@ -17,7 +17,8 @@
 //! one of those that have no value, in the word of a record.
 //!
 //! A script that is read prints `read COUNT` and each line that has a request: its number, its actor, its verb and its
-//! words, of which texts and data are told with their length, as `5:hello`. Of more than 64 bytes only the first 32
+//! words, of which keys and data are told with their length, as `5:hello`. A path is told by its key so, or by what is
+//! wrong with it: `no slash in front`, `too long`, or `no name at PLACE`. Of more than 64 bytes only the first 32
 //! and the last 16 are told, and of such data none. A byte that is no plain one is told as `\41`. What is no script prints
 //! `bad LINE CAUSE` or `long WHAT`, with the names that the mount's status has. The next line begins an empty script.
 //!
