@@ -9,7 +9,7 @@ ghost use Rattle.mount_model.specs.declared.request.Request.{Request};
 ghost use Rattle.mount_model.specs.Conversation.{Next, Asks, Makes, Opens, Creates, Lists, next_of, pages_in};
 ghost use Rattle.mount_model.specs.Handles.{Handle as HandleAt, owner_for};
 ghost use Rattle.mount_model.specs.Heard.{call_of};
-ghost use Rattle.mount_plan.specs.Meant.{MeansOne, with_last};
+ghost use Rattle.mount_plan.specs.Meant.{MeansOne, text_behind, with_last};
 ghost use Rattle.mount_plan.specs.Seen.{view_of};
 ghost use Rattle.mount_core.specs.Due.{DueMeans, DueIsOf, DueTells};
 
@@ -21,7 +21,7 @@ use local_names::Locals;
 use mount_model::{AskedCall, Handle, Heard, Owner, Reply, Request, Told, Version, Waiter};
 use mount_plan::{LinePlan, Plan, View, plan};
 use mp_rules::{DirEntry, Question, QuestionRef};
-use mp_types::{Data, ETag, FilePath, Items, Key};
+use mp_types::{Data, ETag, FilePath, Items, Key, Text};
 use part_uploader::Uploader;
 use std::alloc::{AllocError, Global};
 
@@ -53,22 +53,21 @@ pub enum Due {
     NoMemory,
 }
 
-fn two_keys(alloc: Global, text: &str) -> Result<(Key, Key), AllocError>
-    requires key { IsKeyText text.now }
-    ensures { IfOk result (λ keys. (keys.0 ≡ text.now) × (keys.1 ≡ text.now)) }
+// A key for the call, and one for what the record tells of it.
+fn shared_twice(key: &Key) -> Result<(Key, Key), AllocError>
+    ensures { IfOk result (λ keys. (keys.0 ≡ key.now) × (keys.1 ≡ key.now)) }
 {
-    let key = Key::of(alloc, text)?;
-    let told = key.copy(alloc)?;
-    Ok((key, told))
+    Ok((key.share()?, key.share()?))
 }
 
+// And one for the question that waits for the answer.
 fn three_keys(alloc: Global, text: &str) -> Result<(Key, Key, Key), AllocError>
     requires key { IsKeyText text.now }
     ensures { IfOk result (λ keys. (keys.0 ≡ text.now) × (keys.1 ≡ text.now) × (keys.2 ≡ text.now)) }
 {
-    let (key, told) = two_keys(alloc, text)?;
-    let asked = key.copy(alloc)?;
-    Ok((key, told, asked))
+    let own = Key::of(alloc, text)?;
+    let (key, told) = shared_twice(&own)?;
+    Ok((key, told, own))
 }
 
 fn ask(alloc: Global, line: u32, owner: Owner, asked: QuestionRef<'_>) -> Due
@@ -102,8 +101,8 @@ fn ask(alloc: Global, line: u32, owner: Owner, asked: QuestionRef<'_>) -> Due
     })
 }
 
-fn page(alloc: Global, line: u32, owner: Owner, path: &FilePath, after: &str, max: u32) -> Due
-    ensures means { DueMeans result owner (Asks (Page (prefix_of path.now) after.now max)) }
+fn page(alloc: Global, line: u32, owner: Owner, path: &FilePath, after: Option<&Text>, max: u32) -> Due
+    ensures means { DueMeans result owner (Asks (Page (prefix_of path.now) (text_behind after.entry) max)) }
     ensures whose { (number : ℕ) (asked : Request) (handle : Option HandleAt) → DueIsOf result number asked handle }
     ensures tells { DueTells result line }
 {
@@ -119,18 +118,12 @@ fn page(alloc: Global, line: u32, owner: Owner, path: &FilePath, after: &str, ma
     }
 }
 
-fn copy_twice(alloc: Global, key: &Key) -> Result<(Key, Key), AllocError>
-    ensures { IfOk result (λ keys. (keys.0 ≡ key.now) × (keys.1 ≡ key.now)) }
-{
-    Ok((key.copy(alloc)?, key.copy(alloc)?))
-}
-
-fn get(alloc: Global, line: u32, owner: Owner, version: &Version, from: u64, to: u64) -> Due
+fn get(line: u32, owner: Owner, version: &Version, from: u64, to: u64) -> Due
     ensures means { DueMeans result owner (Asks (Get version.now.key version.now.etag from to)) }
     ensures whose { (number : ℕ) (asked : Request) (handle : Option HandleAt) → DueIsOf result number asked handle }
     ensures tells { DueTells result line }
 {
-    match copy_twice(alloc, &version.key) {
+    match shared_twice(&version.key) {
         Ok((key, told)) => Due::Call(Asking {
             owner,
             line,
@@ -152,13 +145,12 @@ fn get(alloc: Global, line: u32, owner: Owner, version: &Version, from: u64, to:
     }
 }
 
-fn delete(alloc: Global, line: u32, owner: Owner, text: &str) -> Due
-    requires key { IsKeyText text.now }
-    ensures means { DueMeans result owner (Asks (Delete text.now)) }
+fn delete(line: u32, owner: Owner, key: &Key) -> Due
+    ensures means { DueMeans result owner (Asks (Delete key.now)) }
     ensures whose { (number : ℕ) (asked : Request) (handle : Option HandleAt) → DueIsOf result number asked handle }
     ensures tells { DueTells result line }
 {
-    match two_keys(alloc, text) {
+    match shared_twice(key) {
         Ok((key, told)) => Due::Call(Asking {
             owner,
             line,
@@ -166,6 +158,22 @@ fn delete(alloc: Global, line: u32, owner: Owner, text: &str) -> Due
             asked: AskedCall::Delete { key: told },
             purpose: Purpose::Other,
         }),
+        Err(_) => Due::NoMemory,
+    }
+}
+
+fn unlink(alloc: Global, line: u32, owner: Owner, text: &str) -> Due
+    requires key { IsKeyText text.now }
+    ensures means { DueMeans result owner (Asks (Delete text.now)) }
+    ensures whose { (number : ℕ) (asked : Request) (handle : Option HandleAt) → DueIsOf result number asked handle }
+    ensures tells { DueTells result line }
+{
+    match Key::of(alloc, text) {
+        Ok(key) => {
+            let due = delete(line, owner, &key);
+            drop(key);
+            due
+        }
         Err(_) => Due::NoMemory,
     }
 }
@@ -179,21 +187,17 @@ fn stored(alloc: Global, content: &Data) -> Result<Bytes, AllocError>
     }
 }
 
-fn put_parts(alloc: Global, key: &Key, content: &Data) -> Result<(Key, Key, Bytes), AllocError>
-    ensures { IfOk result (λ parts. (parts.0 ≡ key.now) × (parts.1 ≡ key.now) × (parts.2 ≡ bytes_of content.now)) }
-{
-    let (sent, told) = copy_twice(alloc, key)?;
-    let bytes = stored(alloc, content)?;
-    Ok((sent, told, bytes))
-}
-
 fn put(alloc: Global, line: u32, owner: Owner, key: &Key, content: &Data) -> Due
     ensures means { DueMeans result owner (Asks (Put key.now (bytes_of content.now))) }
     ensures whose { (number : ℕ) (asked : Request) (handle : Option HandleAt) → DueIsOf result number asked handle }
     ensures tells { DueTells result line }
 {
-    match put_parts(alloc, key, content) {
-        Ok((key, told, bytes)) => {
+    let bytes = match stored(alloc, content) {
+        Ok(bytes) => bytes,
+        Err(_) => return Due::NoMemory,
+    };
+    match shared_twice(key) {
+        Ok((key, told)) => {
             let length = bytes.len() as u64;
             Due::Call(Asking {
                 owner,
@@ -203,7 +207,10 @@ fn put(alloc: Global, line: u32, owner: Owner, key: &Key, content: &Data) -> Due
                 purpose: Purpose::Other,
             })
         }
-        Err(_) => Due::NoMemory,
+        Err(_) => {
+            drop(bytes);
+            Due::NoMemory
+        }
     }
 }
 
@@ -277,9 +284,9 @@ fn line_due(alloc: Global, line: u32, owner: Owner, plan: LinePlan) -> Due
     match plan {
         LinePlan::Ask(asked) => ask(alloc, line, owner, asked),
         LinePlan::Page { path, after, max } => page(alloc, line, owner, path, after, max),
-        LinePlan::Get { version, from, to } => get(alloc, line, owner, version, from, to),
-        LinePlan::Delete(key) => delete(alloc, line, owner, key.as_str()),
-        LinePlan::Unlink(key) => delete(alloc, line, owner, key),
+        LinePlan::Get { version, from, to } => get(line, owner, version, from, to),
+        LinePlan::Delete(key) => delete(line, owner, key),
+        LinePlan::Unlink(key) => unlink(alloc, line, owner, key),
         LinePlan::Put { key, content } => put(alloc, line, owner, key, content),
         LinePlan::MakeDir(key) => make_dir(alloc, key),
         LinePlan::RemoveDir(_) => Due::RemoveDir,

@@ -4,7 +4,7 @@ ghost use Rattle.listing_rules.specs.Names.{listing_of, prefix_of};
 ghost use Rattle.listing_rules.specs.Pages.{items_of};
 ghost use Rattle.mount_model.specs.Conversation.{pages_in};
 ghost use Rattle.mount_model.specs.declared.event.AskedCall.TheVariants as asked;
-ghost use Rattle.mount_plan.specs.Meant.{with_last};
+ghost use Rattle.mount_plan.specs.Meant.{text_behind, with_last};
 ghost use Rattle.mount_core.specs.Listing.{with_answer};
 
 use bucket_model::{Brief, Call};
@@ -15,18 +15,28 @@ use mp_rules::DirEntry;
 use mp_types::{FilePath, Items, Text};
 use std::alloc::{AllocError, Global};
 
-/// The call for a page of the directory at a path, behind a text, and what the record tells of it.
+// The text behind which a page is asked for: the empty one stands before all items.
+fn text_behind(after: Option<&Text>) -> Result<Text, AllocError>
+    ensures { IfOk result (λ text. text ≡ text_behind after.entry) }
+{
+    match after {
+        Some(text) => text.share(),
+        None => Ok(Text::new()),
+    }
+}
+
+/// The call for a page of the directory at a path, behind a text or the first one, and what the record tells of it.
 pub fn page_calls(
     alloc: Global,
     path: &FilePath,
-    after: &str,
+    after: Option<&Text>,
     max: u32,
 ) -> Result<(Call, AskedCall), AllocError>
-    ensures { IfOk result (λ calls. (calls.0 ≡ call.List (prefix_of path.now) after.now max) × (calls.1 ≡ asked.List (prefix_of path.now) after.now max)) }
+    ensures { IfOk result (λ calls. (calls.0 ≡ call.List (prefix_of path.now) (text_behind after.entry) max) × (calls.1 ≡ asked.List (prefix_of path.now) (text_behind after.entry) max)) }
 {
     let prefix = prefix_text(alloc, path)?;
-    let call = page_call(alloc, prefix.as_str(), after, max)?;
-    let after = Text::copy(alloc, after)?;
+    let after = text_behind(after)?;
+    let call = page_call(&prefix, &after, max)?;
     Ok((call, AskedCall::List { prefix, after, max }))
 }
 

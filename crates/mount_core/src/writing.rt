@@ -160,7 +160,6 @@ impl Work {
             &mut self.jobs,
             &mut self.record,
             &mut self.owed,
-            self.alloc,
         )
     }
 
@@ -200,9 +199,7 @@ impl Work {
             unreachable!()
         };
         match writer.waiter {
-            Waiter::Close(_) => {
-                self.handles.close(actor, name);
-            }
+            Waiter::Close(_) => drop(self.handles.close(actor, name)),
             Waiter::Nobody | Waiter::Sync(_) => {
                 file_handles::answered(&mut self.handles, actor, name);
             }

@@ -4,7 +4,7 @@ use Rattle.mount_core.specs.Shared.{shared_in}
 use Rattle.mount_core.specs.Turn.{Answers, SharedAlone}
 use Rattle.mount_core.proofs.Turns.{answers_none}
 use Rattle.mount_core.proofs.Writers.{answers_alone, behind_none}
-use Rattle.mount_core.proofs.work.Work.answer_waiter.Goals.{in-Close+in-Some-close+in-Reading-1, in-Close+in-Some-close+in-Writing-1, in-Close+in-None-1, in-Nobody}
+use Rattle.mount_core.proofs.work.Work.answer_waiter.Goals.{in-Close, in-Nobody}
 use Rattle.mount_core.proofs.work.Work.answer_waiter.Goals as goal
 
 pub returns-in_default-clause-answers : goal.returns-in_default-clause-answers
@@ -16,9 +16,7 @@ returns-in_default-clause-shared c = λ w stands. behind_none (c.args.actor, c.a
 pub returns-clause-answers : goal.returns-clause-answers
 returns-clause-answers c =
     let alone : SharedAlone c.args.self.now c.match-writer.self = elim c.match-writer.branch [
-      | in-Close+in-Some-close+in-Reading-1 w ↦ subst (SharedAlone c.args.self.now) (sym w.self-is) (record { steps = refl; lines = refl; jobs = refl; time = refl; options = refl })
-      | in-Close+in-Some-close+in-Writing-1 w ↦ subst (SharedAlone c.args.self.now) (sym w.self-is) (record { steps = refl; lines = refl; jobs = refl; time = refl; options = refl })
-      | in-Close+in-None-1 w ↦ subst (SharedAlone c.args.self.now) (sym w.self-is) (record { steps = refl; lines = refl; jobs = refl; time = refl; options = refl })
+      | in-Close w ↦ subst (SharedAlone c.args.self.now) (sym w.self-is) (record { steps = refl; lines = refl; jobs = refl; time = refl; options = refl })
       | in-Nobody w ↦ subst (SharedAlone c.args.self.now) (sym w.self-is) (record { steps = refl; lines = refl; jobs = refl; time = refl; options = refl })
     ] in
     subst (λ o. Answers (option_to_list o) c.args.self.now c.reply_line.new.self) (sym c.in-Some.is) (answers_alone _ c.args.self.now c.match-writer.self c.reply_line.new.self alone c.reply_line.ensures.answers)
