@@ -32,7 +32,11 @@ fn words_of(rt: &HostRuntime) -> Result<Vec<Text>, Status>
         Err(error) => return Err(refusal_of(&error)),
     };
     for word in arguments.skip(1) {
-        match words.push(Text::from_string(word)) {
+        let word = match Text::from_string(word) {
+            Ok(word) => word,
+            Err(_) => return Err(Status::NoMemory),
+        };
+        match words.push(word) {
             Ok(()) => {}
             Err(_) => return Err(Status::NoMemory),
         }

@@ -5,8 +5,8 @@ use mp_types::{FilePath, PathFault};
 use std::alloc::{AllocError, Global};
 use std::cmp::Ordering;
 
-fn tell_key(alloc: Global, path: &FilePath, printed: &mut String) -> Result<(), AllocError> {
-    let key = key_of(alloc, path)?;
+fn tell_key(path: &FilePath, printed: &mut String) -> Result<(), AllocError> {
+    let key = key_of(path)?;
     let told = tell_text(printed, key.as_str());
     drop(key);
     told
@@ -26,7 +26,7 @@ pub fn tell_fault(printed: &mut String, why: PathFault) -> Result<(), AllocError
 pub fn key(alloc: Global, words: &str, printed: &mut String) -> Option<()> {
     match FilePath::parse(alloc, text_in(one(words)?)) {
         Ok(path) => {
-            let told = tell_key(alloc, &path, printed);
+            let told = tell_key(&path, printed);
             drop(path);
             told.ok()
         }

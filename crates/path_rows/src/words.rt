@@ -41,7 +41,7 @@ pub fn key(alloc: Global, word: &str) -> Option<Key> {
 /// The text of an item, where `%00` stands for a NUL.
 pub fn item_text(alloc: Global, word: &str) -> Option<Text> {
     let text = text_in(word).replace(alloc, "%00", "\0").ok()?;
-    Some(Text::from_string(text))
+    Text::from_string(text).ok()
 }
 
 pub fn number(word: &str) -> Option<u64> {

@@ -129,9 +129,9 @@ impl Desk {
 }
 
 fn head(alloc: Global, line: u32, key: &str) -> Option<Asking> {
-    let called = Key::parse(alloc, key).ok()?;
-    let told = Key::parse(alloc, key).ok()?;
     let asked = Key::parse(alloc, key).ok()?;
+    let called = asked.share().ok()?;
+    let told = asked.share().ok()?;
     Some(Asking {
         owner: Owner::Line(line),
         line,

@@ -52,11 +52,11 @@ fn say_key(path: &FilePath, printed: &mut Vec<u8>) -> Result<(), AllocError> {
     print_text(printed, path.as_key().as_bytes())
 }
 
-fn print_path(alloc: Global, path: &FilePath, printed: &mut Vec<u8>) -> Result<(), AllocError> {
+fn print_path(path: &FilePath, printed: &mut Vec<u8>) -> Result<(), AllocError> {
     print_names(path, printed)?;
-    let copied = path.copy(alloc)?;
-    let done = say_key(&copied, printed);
-    drop(copied);
+    let shared = path.share()?;
+    let done = say_key(&shared, printed);
+    drop(shared);
     done
 }
 
@@ -75,7 +75,7 @@ fn print_fault(fault: &PathFault, printed: &mut Vec<u8>) -> Result<(), AllocErro
 fn print_parsed(alloc: Global, text: &str, printed: &mut Vec<u8>) -> Result<(), AllocError> {
     match FilePath::parse(alloc, text) {
         Ok(path) => {
-            let done = print_path(alloc, &path, printed);
+            let done = print_path(&path, printed);
             drop(path);
             done
         }
