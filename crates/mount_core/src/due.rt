@@ -101,7 +101,14 @@ fn ask(alloc: Global, line: u32, owner: Owner, asked: QuestionRef<'_>) -> Due
     })
 }
 
-fn page(alloc: Global, line: u32, owner: Owner, path: &FilePath, after: Option<&Text>, max: u32) -> Due
+fn page(
+    alloc: Global,
+    line: u32,
+    owner: Owner,
+    path: &FilePath,
+    after: Option<&Text>,
+    max: u32,
+) -> Due
     ensures means { DueMeans result owner (Asks (Page (prefix_of path.now) (text_behind after.entry) max)) }
     ensures whose { (number : ℕ) (asked : Request) (handle : Option HandleAt) → DueIsOf result number asked handle }
     ensures tells { DueTells result line }

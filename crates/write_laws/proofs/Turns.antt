@@ -231,8 +231,8 @@ module _ (log : List Logged) (start : ℕ) (stood later : ℕ → List ℕ → T
       let ties : TiesEvent start log state (Done heard.number heard.position heard.said) = subst (TiesEvent start log state) heard.event_is b.ties in
       let entry : is_counted heard.said ≡ true → HasEntry log heard.position heard.may.job.call heard.said = λ counted. ties counted heard.may.job heard.may.stands in
       let told_upload : (named : ℕ) (other : List ℕ) → heard.may.job.call ≡ call.Create other → heard.said ≡ answer.Upload named → HasEntry log heard.position (call.Create other) (answer.Upload named) = λ named other calls said.
-          (let told = entry (ap is_counted said) in
-          record { logged = told.logged; stands = told.stands; call = told.call ∙ calls; brief = told.brief ∙ said })
+      (let told = entry (ap is_counted said) in
+      record { logged = told.logged; stands = told.stands; call = told.call ∙ calls; brief = told.brief ∙ said })
       in
       heard-filled log places (with_place places (Done heard.number heard.position heard.said)) state.jobs heard.before.line heard.before.key (taken heard.before.line) heard.before.upload heard.number heard.may.job heard.position heard.called heard.said (sym heard.called_is)
       (record {

@@ -17,10 +17,8 @@ ghost use Rattle.mount_model.specs.Written.{AreWritten};
 /// Each object that an upload of the mount makes is whole, and it is there once close or fsync has succeeded. This holds
 /// also where others change the bucket and make uploads of their own, as long as they name none of the mount's.
 pub fn written_objects_are_whole()
-    ensures {
-        (options : Opts) (script : List Line) (start : ℕ) (log : List Logged) (steps : List Step) →
+    ensures { (options : Opts) (script : List Line) (start : ℕ) (log : List Logged) (steps : List Step) →
         AreWithin options → AreRising 0 script → IsRunSoFar options script steps → TiesTo options script start log steps →
         HasItsUploads start log (state_after options script steps).positions →
-        IsLegalHistory log → AreWritten options script log steps
-    }
+        IsLegalHistory log → AreWritten options script log steps }
 {}
